@@ -1,0 +1,24 @@
+-- A count is one number; a test counts.
+use Prim.Native.Nat.{ℕ, zero, suc, _≤_, _<_, _+_}
+use native.Mathlib.Omega.{arith}
+use mathlib.Core.Path.{_≡_, refl, ap, sym}
+use mathlib.Core.Logic.{_↔_}
+use mathlib.Core.Bool.{Bool, true, false}
+use lib.Dec.{T}
+use Rattle.meaning.specs.Joins.{count, tick}
+use Rattle.meaning.specs.Totals.{Count, none, one, skip}
+
+pub count-one : {P : ℕ → Type 0} {N n n′ : ℕ} → Count P N n → Count P N n′ → n ≡ n′
+count-one none none = refl
+count-one (one p c) (one q d) = ap suc (count-one c d)
+count-one (one p c) (skip q d) = absurd (q p)
+count-one (skip p c) (one q d) = absurd (p q)
+count-one (skip p c) (skip q d) = count-one c d
+
+pub count-of : (P : ℕ → Type 0) (p : ℕ → Bool) (N : ℕ) → ((x : ℕ) → x < N → P x ↔ T (p x)) → Count P N (count p N)
+count-of P p zero h = none
+count-of P p (suc N) h = go (p N) (h N (omega arith)) (count-of P p N (λ x l. h x (omega arith)))
+  where
+    go : (b : Bool) → P N ↔ T b → Count P N (count p N) → Count P (suc N) (tick b (count p N))
+    go true e c = one (e .1 tt) c
+    go false e c = skip (e .0) c

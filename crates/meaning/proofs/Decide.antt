@@ -1,0 +1,201 @@
+-- Each notion of the definitions is decided, by the closure on paper.
+use Prim.Native.Nat.{ℕ, zero, suc, _≤_, _<_, _+_, _*_, _-_, max}
+use native.Mathlib.Omega.{arith}
+use native.Mathlib.Decide.{ℕ-discrete, decLt, decLe}
+use mathlib.Core.Path.{_≡_, refl, sym, _∙_, ap}
+use mathlib.Core.Logic.{_≢_, _↔_, _⊎_, inl, inr, Dec·not, Dec·and, Iff·symm}
+use mathlib.Core.Bool.{Bool, true, false, _&&_, not}
+use mathlib.Core.List.{List, [], cons≢nil, _∷_, List·Memᴰ, List·Memᴰ·head, List·Memᴰ·tail, List·Memᴰ·cases-cons, List·Memᴰ·not-nil}
+use lib.Dec.{T, leb, leb→le, le→leb, eqb, eqb→eq, T-not, not-T}
+use borrow.Author.Tests.{eq-eqb, eqb-true, ne-eqb}
+use lib.ListN.{length, getD}
+use Rattle.meaning.specs.Following.{Rec, eq, app, Follows, Those, Only, UpTo, Without, Leader}
+use Rattle.meaning.specs.Reasons.{Above, lastOf, FirstAt, Reason}
+use Rattle.meaning.specs.Labels.{Labels}
+use Rattle.meaning.specs.Totals.{Count, none, one, skip, Classes, Idle, Idles}
+use Rattle.meaning.specs.Cases.{Claim, follow, apart, leader, reason, unsound, classes, idle, Says}
+use Rattle.meaning.proofs.Close.{more-of, complete}
+use Rattle.meaning.proofs.Count.{count-one, count-of}
+use Rattle.meaning.proofs.Reference.{Small, State, Done, done, done-same, any-below}
+use Rattle.meaning.proofs.Short.{among, among-in, in-among}
+
+unfoldable pub decIff : {A B : Type 0} → A ↔ B → Dec A → Dec B
+decIff e (yes a) = yes (e .0 a)
+decIff e (no a) = no (λ b. a (e .1 b))
+
+unfoldable pub decEmpty : (L : List ℕ) → Dec (L ≡ [])
+decEmpty [] = yes refl
+decEmpty (k ∷ L) = no (λ e. cons≢nil e)
+
+-- a number above every tag of the records
+abbrev pub boundOf : Rec → ℕ
+boundOf (eq a b) = suc (max a b)
+boundOf (app a b c) = suc (max a (max b c))
+
+abbrev pub bound : List Rec → ℕ
+bound [] = 0
+bound (r ∷ rs) = max (boundOf r) (bound rs)
+
+small-of : (r : Rec) (N : ℕ) → boundOf r ≤ N → Small N r
+small-of (eq a b) N h = omega arith
+small-of (app a b c) N h = omega arith
+
+pub small-all : (rs : List Rec) (N : ℕ) → bound rs ≤ N → (i : ℕ) → i < length rs → Small N (getD rs i (eq 0 0))
+small-all [] N l i h = absurd (omega arith)
+small-all (r ∷ rs) N l zero h = small-of r N (omega arith)
+small-all (r ∷ rs) N l (suc i) h = small-all rs N (omega arith) i (omega arith)
+
+-- the closure of the chosen records
+unfoldable pub close : (rs : List Rec) (p : ℕ → Bool) → Done (bound rs) rs (small-all rs (bound rs) (omega arith)) p
+unfolding done
+close rs p = done (bound rs) rs (small-all rs (bound rs) (omega arith)) p
+
+-- the labels of that closure
+unfoldable pub label : (rs : List Rec) (p : ℕ → Bool) → ℕ → ℕ
+unfolding close
+label rs p = close rs p .state .f
+
+pub label-labels : (rs : List Rec) (p : ℕ → Bool) → Labels (label rs p)
+unfolding label
+label-labels rs p = close rs p .state .labels
+
+pub leader-one : {S : Rec → Type 0} {s l l′ : ℕ} → Leader S s l → Leader S s l′ → l ≡ l′
+leader-one {l = l} {l′ = l′} h h′ = omega (arith, h .least l′ (h′ .member), h′ .least l (h .member))
+
+module _ (rs : List Rec) (p : ℕ → Bool) (P : ℕ → Type 0) (e : (k : ℕ) → P k ↔ T (p k)) where
+  pub label-same : (s t : ℕ) → Follows (Those rs P) s t ↔ (label rs p s ≡ label rs p t)
+  unfolding label close
+  label-same s t =
+      let h = done-same (bound rs) rs (small-all rs (bound rs) (omega arith)) p (close rs p) s t in
+      (λ f. h .0 (more-of (λ k. e k .0) f), λ q. more-of (λ k. e k .1) (h .1 q))
+
+  unfoldable pub decFollows : (s t : ℕ) → Dec (Follows (Those rs P) s t)
+  unfolding decIff label ℕ-discrete
+  decFollows s t = decIff (Iff·symm (label-same s t)) (ℕ-discrete (label rs p s) (label rs p t))
+
+  pub label-leader : (s : ℕ) → Leader (Those rs P) s (label rs p s)
+  label-leader s = record {
+    member = label-same s (label rs p s) .1 (sym (label-labels rs p .flat s));
+    least = λ x f. rw (label-same s x .0 f) (label-labels rs p .low x);
+  }
+
+  unfoldable pub decLeader : (s l : ℕ) → Dec (Leader (Those rs P) s l)
+  unfolding label ℕ-discrete
+  decLeader s l = go (ℕ-discrete (label rs p s) l)
+    where
+      go : Dec (label rs p s ≡ l) → Dec (Leader (Those rs P) s l)
+      go (yes q) = yes (rw q at (label-leader s))
+      go (no q) = no (λ h. q (leader-one (label-leader s) h))
+
+-- a count of what is decided
+unfoldable pub countIt : (P : ℕ → Type 0) → ((x : ℕ) → Dec (P x)) → (N : ℕ) → (n : ℕ) × Count P N n
+countIt P d zero = (0, none)
+countIt P d (suc N) = go (d N) (countIt P d N)
+  where
+    go : Dec (P N) → (n : ℕ) × Count P N n → (n : ℕ) × Count P (suc N) n
+    go (yes p) c = (suc (c .0), one p (c .1))
+    go (no p) c = (c .0, skip p (c .1))
+
+unfoldable pub decCount : (P : ℕ → Type 0) → ((x : ℕ) → Dec (P x)) → (N n : ℕ) → Dec (Count P N n)
+unfolding countIt ℕ-discrete
+decCount P d N n = go (ℕ-discrete (countIt P d N .0) n)
+  where
+    go : Dec (countIt P d N .0 ≡ n) → Dec (Count P N n)
+    go (yes q) = yes (rw q at (countIt P d N .1))
+    go (no q) = no (λ c. q (count-one (countIt P d N .1) c))
+
+-- the three choices of records, as tests
+pub upTo-test : (k n : ℕ) → (n ≤ k) ↔ T (leb n k)
+upTo-test k n = (le→leb n k, leb→le n k)
+
+pub only-test : (L : List ℕ) (n : ℕ) → List·Memᴰ n L ↔ T (among L n)
+only-test L n = (in-among L n, among-in L n)
+
+abbrev pub besides : List ℕ → ℕ → ℕ → Bool
+besides L m n = among L n && not (eqb n m)
+
+and-both : (a b : Bool) → T a → T b → T (a && b)
+and-both true b s t = t
+and-both false b s t = s
+
+and-split : (a b : Bool) → T (a && b) → T a × T b
+and-split true b t = (tt, t)
+and-split false b t = absurd t
+
+pub without-test : (L : List ℕ) (m n : ℕ) → (List·Memᴰ n L × (n ≢ m)) ↔ T (besides L m n)
+without-test L m n = (
+  λ h. and-both (among L n) (not (eqb n m)) (in-among L n (h .0)) (not-T (eqb n m) (λ t. h .1 (eqb→eq n m t))),
+  λ t. (among-in L n (and-split (among L n) (not (eqb n m)) t .0), λ q. T-not (eqb n m) (and-split (among L n) (not (eqb n m)) t .1) (rw (eq-eqb n m q) tt)),
+)
+
+-- decisions put together
+unfoldable pub decImp : {A B : Type 0} → Dec A → Dec B → Dec (A → B)
+decImp a (yes b) = yes (λ x. b)
+decImp (yes a) (no b) = no (λ f. b (f a))
+decImp (no a) (no b) = yes (λ x. absurd (a x))
+
+unfoldable pub decAll : (Q : ℕ → Type 0) → ((k : ℕ) → Dec (Q k)) → (L : List ℕ) → Dec ((k : ℕ) → List·Memᴰ k L → Q k)
+decAll Q d [] = yes (λ k i. absurd (List·Memᴰ·not-nil i))
+decAll Q d (x ∷ L) = go (d x) (decAll Q d L)
+  where
+    go : Dec (Q x) → Dec ((k : ℕ) → List·Memᴰ k L → Q k) → Dec ((k : ℕ) → List·Memᴰ k (x ∷ L) → Q k)
+    go (yes q) (yes r) = yes (λ k i. elim (List·Memᴰ·cases-cons i) [ inl e ↦ rw e q | inr j ↦ r k j ])
+    go (yes q) (no r) = no (λ h. r (λ k i. h k (List·Memᴰ·tail i)))
+    go (no q) r = no (λ h. q (h x (List·Memᴰ·head refl)))
+
+unfoldable pub decBelow : (Q : ℕ → Type 0) → ((k : ℕ) → Dec (Q k)) → (n : ℕ) → Dec ((k : ℕ) → k < n → Q k → ⊥)
+unfolding any-below
+decBelow Q d n = go (any-below Q d n)
+  where
+    go : Dec ((i : ℕ) × (i < n) × Q i) → Dec ((k : ℕ) → k < n → Q k → ⊥)
+    go (yes h) = no (λ f. f (h .0) (h .1) (h .2))
+    go (no h) = yes (λ k l q. h (k, l, q))
+
+unfoldable pub decAbove : (m : ℕ) (L : List ℕ) → Dec (Above m L)
+unfolding Dec·and decLt
+decAbove m [] = yes tt
+decAbove m (k ∷ L) = Dec·and (decLt m k) (decAbove k L)
+
+unfoldable pub decUpTo : (rs : List Rec) (k s t : ℕ) → Dec (Follows (UpTo rs k) s t)
+unfolding decFollows
+decUpTo rs k = decFollows rs (λ n. leb n k) (λ n. n ≤ k) (upTo-test k)
+
+unfoldable pub decFirstAt : (rs : List Rec) (s t k : ℕ) → Dec (FirstAt rs s t k)
+unfolding decIff Dec·and decUpTo decBelow
+decFirstAt rs s t k = decIff (λ h. record { then = h .0; before = h .1 }, λ h. (h .then, h .before))
+    (Dec·and (decUpTo rs k s t) (decBelow (λ n. Follows (UpTo rs n) s t) (λ n. decUpTo rs n s t) k))
+
+unfoldable pub decReason : (N : ℕ) (rs : List Rec) (R s t : ℕ) (L : List ℕ) → Dec (Reason N rs R s t L)
+unfolding decIff Dec·and decAbove decAll decLe decFollows decImp ℕ-discrete decEmpty Dec·not decFirstAt
+decReason N rs R s t L = decIff (
+  λ h. record { rising = h .0; stand = h .1 .0; entails = h .1 .1 .0; empty = h .1 .1 .1 .0; last = h .1 .1 .1 .1 .0; unspared = h .1 .1 .1 .1 .1 .0; short = h .1 .1 .1 .1 .1 .1 },
+  λ h. (h .rising, (h .stand, (h .entails, (h .empty, (h .last, (h .unspared, h .short)))))),
+)
+    (Dec·and (decAbove 0 L)
+    (Dec·and (decAll (λ k. k ≤ R) (λ k. decLe k R) L)
+    (Dec·and (decFollows rs (among L) (λ n. List·Memᴰ n L) (only-test L) s t)
+    (Dec·and (decImp (ℕ-discrete s t) (decEmpty L))
+    (Dec·and (decImp (Dec·not (ℕ-discrete s t)) (decFirstAt rs s t (lastOf 0 L)))
+    (Dec·and (decAll (λ m. Follows (Without rs L m) s t → ⊥) (λ m. Dec·not (decFollows rs (besides L m) (λ n. List·Memᴰ n L × (n ≢ m)) (without-test L m) s t)) L)
+    (decLe (length L) (2 * (N - 1)))))))))
+
+unfoldable pub decClasses : (N : ℕ) (rs : List Rec) (k n : ℕ) → Dec (Classes N (UpTo rs k) n)
+unfolding decCount decLeader
+decClasses N rs k n = decCount (λ x. Leader (UpTo rs k) x x) (λ x. decLeader rs (λ n. leb n k) (λ n. n ≤ k) (upTo-test k) x x) N n
+
+unfoldable pub decIdle : (N : ℕ) (rs : List Rec) (k : ℕ) → Dec (Idle N rs k)
+unfolding countIt decLeader decIff decClasses
+decIdle N rs k = go (countIt (λ x. Leader (UpTo rs k) x x) (λ x. decLeader rs (λ n. leb n k) (λ n. n ≤ k) (upTo-test k) x x) N)
+  where
+    go : (n : ℕ) × Classes N (UpTo rs k) n → Dec (Idle N rs k)
+    go c = decIff (λ d. (c .0, c .1, d), λ i. rw (count-one (c .1) (i .1)) (i .2)) (decClasses N rs (suc k) (c .0))
+
+unfoldable pub decSays : (N : ℕ) (rs : List Rec) (c : Claim) → Dec (Says N rs c)
+unfolding decUpTo Dec·not decLeader decReason decClasses decCount decIdle
+decSays N rs (follow s t) = decUpTo rs (length rs) s t
+decSays N rs (apart s t) = Dec·not (decUpTo rs (length rs) s t)
+decSays N rs (leader s l) = decLeader rs (λ n. leb n (length rs)) (λ n. n ≤ length rs) (upTo-test (length rs)) s l
+decSays N rs (reason s t L) = decReason N rs (length rs) s t L
+decSays N rs (unsound s t L) = Dec·not (decReason N rs (length rs) s t L)
+decSays N rs (classes n) = decClasses N rs (length rs) n
+decSays N rs (idle n) = decCount (Idle N rs) (decIdle N rs) (length rs) n

@@ -1,0 +1,14 @@
+pub mod Close
+pub mod Log
+pub mod Trim
+pub mod Relabel
+pub mod Rising
+pub mod Count
+pub mod Reference
+pub mod Short
+pub mod Decide
+pub mod Cases
+pub mod Exact
+pub mod Forest
+pub mod Walk
+pub mod Table

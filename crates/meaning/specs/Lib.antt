@@ -1,0 +1,9 @@
+pub mod Following
+pub mod Reasons
+pub mod Joins
+pub mod Labels
+pub mod Trim
+pub mod Totals
+pub mod Cases
+pub mod Forest
+pub mod Walk
