@@ -7,7 +7,7 @@ use native.Mathlib.Numerals.{add-one}
 use mathlib.Core.Path.{_≡_, refl, sym, _∙_, ap, subst}
 use mathlib.Core.Bool.{Bool, true, false, cond, _&&_}
 use mathlib.Core.List.{List, [], _∷_}
-use borrow.Author.Tests.{ltb-true, leb-true, ne-eqb}
+use borrow.Author.Tests.{ltb-true, leb-true, lt-leb, ne-eqb}
 use lib.Dec.{eqb, ltb, leb}
 use lib.ListN.{length}
 use Rattle.meaning.specs.Following.{Rec, eq, app}
@@ -158,7 +158,7 @@ tally-explain N R Q room s t (accepted M is) h =
     let e′ : room + (3 + 2 * min R (2 * (N - 1)) + neededRoom N R is) ≡ room + (3 + 2 * min R (2 * (N - 1))) + neededRoom N R is = omega arith in
     rw (h, e, e′)
 
-and-true : (a b : Bool) → (a && b) ≡ true → (a ≡ true) × (b ≡ true)
+pub and-true : (a b : Bool) → (a && b) ≡ true → (a ≡ true) × (b ≡ true)
 and-true true b e = (refl, e)
 and-true false b e = let z : _≡_ {A = ℕ} 0 1 = cc in absurd (omega arith)
 
@@ -263,3 +263,28 @@ seeing-done job s r v (done f) = go (v .fuel) (v .enough) (v .same)
     go : (n : ℕ) → length job < s .at + n → summary (reading job) ≡ tallied n job s → told r ≡ summary (reading job)
     go zero h e = absurd (omega (arith, v .going .within))
     go (suc n) h e = sym (e ∙ f n)
+
+-- Beyond the job nothing is read.
+field-beyond : (job : List ℕ) (at : ℕ) → length job < at → fieldAt job at ≡ bad 3
+unfolding fieldAt
+field-beyond job at h = rw (lt-leb (at + 3) (length job) (omega arith))
+
+read-beyond : (n : ℕ) (job : List ℕ) (N R Q at : ℕ) → length job < at → readFrom n job N R Q at ≡ refused 3 at
+unfolding readFrom checked
+read-beyond zero job N R Q at h = refl
+read-beyond (suc n) job N R Q at h = rw (field-beyond job at h)
+
+-- The fuel of reading is enough: with any two numbers of fields above what is left of the job, the same is read.
+pub read-enough : (m n : ℕ) (job : List ℕ) (N R Q at : ℕ) → length job < at + m → length job < at + n → readFrom m job N R Q at ≡ readFrom n job N R Q at
+unfolding readFrom
+read-enough zero n job N R Q at a b = sym (read-beyond n job N R Q at (omega arith))
+read-enough (suc m) zero job N R Q at a b = read-beyond (suc m) job N R Q at (omega arith)
+read-enough (suc m) (suc n) job N R Q at a b = go (λ N′ R′ Q′ k l. read-enough m n job N′ R′ Q′ (at + k) (omega arith) (omega arith)) (checked N R Q (fieldAt job at))
+  where
+    go : ((N′ R′ Q′ k : ℕ) → 3 ≤ k → readFrom m job N′ R′ Q′ (at + k) ≡ readFrom n job N′ R′ Q′ (at + k)) → (g : Field) → onward (readFrom m job) job N R Q at g ≡ onward (readFrom n job) job N R Q at g
+    go ih (bad k) = refl
+    go ih (header M) = ih M R Q 5 (omega arith)
+    go ih (item (noted r)) = ap (with (noted r)) (ih N (suc R) Q (spanOf (noted r)) (omega (arith, record-span r)))
+    go ih (item (ask s t)) = ap (with (ask s t)) (ih N R (suc Q) 7 (omega arith))
+    go ih (item (explain s t)) = ap (with (explain s t)) (ih N R (suc Q) 7 (omega arith))
+    go ih end = refl
