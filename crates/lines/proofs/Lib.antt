@@ -2,3 +2,4 @@ pub mod Digits
 pub mod Putting
 pub mod Parts
 pub mod Walking
+pub mod Size
