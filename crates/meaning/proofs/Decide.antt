@@ -188,12 +188,12 @@ decIdle N rs k = go (countIt (λ x. Leader (UpTo rs k) x x) (λ x. decLeader rs 
     go : (n : ℕ) × Classes N (UpTo rs k) n → Dec (Idle N rs k)
     go c = decIff (λ d. (c .0, c .1, d), λ i. rw (count-one (c .1) (i .1)) (i .2)) (decClasses N rs (suc k) (c .0))
 
-unfoldable pub decSays : (N : ℕ) (rs : List Rec) (c : Claim) → Dec (Says N rs c)
+unfoldable pub decSays : (N : ℕ) (rs : List Rec) (R : ℕ) (c : Claim) → Dec (Says N rs R c)
 unfolding decUpTo Dec·not decLeader decReason decClasses decCount decIdle
-decSays N rs (follow s t) = decUpTo rs (length rs) s t
-decSays N rs (apart s t) = Dec·not (decUpTo rs (length rs) s t)
-decSays N rs (leader s l) = decLeader rs (λ n. leb n (length rs)) (λ n. n ≤ length rs) (upTo-test (length rs)) s l
-decSays N rs (reason s t L) = decReason N rs (length rs) s t L
-decSays N rs (unsound s t L) = Dec·not (decReason N rs (length rs) s t L)
-decSays N rs (classes n) = decClasses N rs (length rs) n
-decSays N rs (idle n) = decCount (Idle N rs) (decIdle N rs) (length rs) n
+decSays N rs R (follow s t) = decUpTo rs R s t
+decSays N rs R (apart s t) = Dec·not (decUpTo rs R s t)
+decSays N rs R (leader s l) = decLeader rs (λ n. leb n R) (λ n. n ≤ R) (upTo-test R) s l
+decSays N rs R (reason s t L) = decReason N rs R s t L
+decSays N rs R (unsound s t L) = Dec·not (decReason N rs R s t L)
+decSays N rs R (classes n) = decClasses N rs R n
+decSays N rs R (idle n) = decCount (Idle N rs) (decIdle N rs) (length rs) n
