@@ -6,7 +6,7 @@ use mathlib.Core.List.{List, [], _∷_}
 use lib.Dec.{T}
 use Prim.Native.Nat.{ℕ}
 use Rattle.meaning.specs.Following.{Rec}
-use Rattle.meaning.specs.Cases.{Claim, Says, Case, EachClaim, EachCase, AllHold, NoneHold, stars, twins}
+use Rattle.meaning.specs.Cases.{Claim, Case, EachClaim, EachCase, AllHold, NoneHold, stars, twins}
 use Rattle.meaning.proofs.Decide.{decSays}
 
 abbrev yesb : {A : Type 0} → Dec A → Bool
