@@ -3,3 +3,5 @@ pub mod Fits
 pub mod Laid
 pub mod Written
 pub mod Fault
+pub mod Read
+pub mod Listing
