@@ -5,3 +5,4 @@ pub mod Written
 pub mod Fault
 pub mod Read
 pub mod Listing
+pub mod Right
