@@ -56,7 +56,7 @@ struct stand {
     struct job job;
     struct history history;
     long room, record_places, work_places;
-    long jobs, cases, wrong;
+    long jobs, cases, wrong; /* in play: answers given, and lies among them */
 };
 
 static void take_job(struct stand *stand, enum way (*way)(const struct job *job))
@@ -190,6 +190,14 @@ int frames_damage(unsigned long long seed)
 
 /* ---- the part of a test program ---- */
 
+static int lies_now(struct stand *stand, long lie)
+{
+    stand->cases++;
+    int now = lie > 0 && stand->cases % lie == 0;
+    stand->wrong += now;
+    return now;
+}
+
 static void play_recheck(struct stand *stand, long lie)
 {
     long place = 0;
@@ -198,7 +206,7 @@ static void play_recheck(struct stand *stand, long lie)
         number = report_judge(&stand->job, &stand->history, stand->report.at, stand->report.length, &place);
     else
         place = stand->job.place;
-    if (lie > 0 && ++stand->cases % lie == 0)
+    if (lies_now(stand, lie))
         place++;
     putchar('C');
     put_number((unsigned long)number, 2);
@@ -211,7 +219,7 @@ static void play_run(struct stand *stand, long lie)
     long place = number == stand->job.number ? stand->job.place : 0;
     if (number == 0)
         report_write(&stand->job, &stand->history, 0, &stand->report);
-    if (lie > 0 && ++stand->cases % lie == 0) {
+    if (lies_now(stand, lie)) {
         if (number == 0)
             stand->report.at[stand->report.length - 1]++;
         else
@@ -241,5 +249,6 @@ int frames_play(long lie)
             broken("jobs and reports are expected");
         play_recheck(&stand, lie);
     }
+    fprintf(stderr, "answers %ld lies %ld\n", stand.cases, stand.wrong);
     return fflush(stdout) != 0 || ferror(stdout);
 }

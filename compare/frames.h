@@ -20,7 +20,8 @@ int frames_judge(void);
 /* Puts behind each job of the stream on standard input damaged reports. */
 int frames_damage(unsigned long long seed);
 
-/* Answers the stream on standard input as a test program does, by use lists. With `lie` above 0, every lie-th answer is wrong. */
+/* Answers the stream on standard input as a test program does, by use lists. With `lie` above 0, every lie-th answer is wrong.
+   Says on standard error how many answers and lies there were. */
 int frames_play(long lie);
 
 #endif
