@@ -1,0 +1,112 @@
+-- What a store and a frame leave of the regions, once for every region; and the laws of gathered lists.
+-- Assumes nothing.
+use Prim.Native.Nat.{ℕ, zero, suc, _+_, _≤_, _<_}
+use native.Mathlib.Omega.{arith}
+use native.Mathlib.Decide.{ℕ-discrete, decLt}
+use mathlib.Core.Path.{_≡_, refl, sym, _∙_, ap, fun-ext}
+use mathlib.Core.Logic.{_≢_, _⊎_, inl, inr}
+use mathlib.Core.Bool.{Bool, true, false, cond}
+use mathlib.Core.List.{List, [], _∷_, _++_, List·Memᴰ, List·Memᴰ·head, List·Memᴰ·tail, List·Memᴰ·append-cases, List·Memᴰ·eq-of-singleton, List·Memᴰ·not-nil, Memᴰ·append-left, Memᴰ·append-right}
+use lib.Dec.{ltb}
+use borrow.Author.Tests.{lt-ltb, le-ltb}
+use lib.ListN.{length, getD, set, length-set, length-append, List·getD-append}
+use lib.Seq.{getD-set-same, getD-set-other, getD-append-seam}
+use Rattle.meaning.specs.Joins.{put}
+use Rattle.meaning.proofs.Log.{put-hit, put-miss}
+use Rattle.table.specs.Map.{seen, gather, Within}
+
+module _ (at size : ℕ) (past : ℕ → ℕ) where
+  -- Within its size a region is the table; past it, the rule.
+  pub seen-at : (w : List ℕ) (x : ℕ) → x < size → seen at size past w x ≡ getD w (at + x) 0
+  unfolding seen
+  seen-at w x l = rw (lt-ltb x size l)
+
+  pub seen-past : (w : List ℕ) (x : ℕ) → size ≤ x → seen at size past w x ≡ past x
+  unfolding seen
+  seen-past w x l = rw (le-ltb x size l)
+
+  -- Two tables that agree in a region are one to whoever sees the region.
+  pub seen-same : (w w′ : List ℕ) → ((x : ℕ) → x < size → getD w′ (at + x) 0 ≡ getD w (at + x) 0) → seen at size past w′ ≡ seen at size past w
+  seen-same w w′ h = fun-ext (λ x. go x (decLt x size))
+    where
+      go : (x : ℕ) → Dec (x < size) → seen at size past w′ x ≡ seen at size past w x
+      go x (yes l) = rw (seen-at w′ x l, seen-at w x l) (h x l)
+      go x (no l) = rw (seen-past w′ x (omega arith), seen-past w x (omega arith))
+
+  -- A store in the region changes one place of it; one elsewhere changes nothing of it.
+  pub seen-in : (w : List ℕ) (i v : ℕ) → i < size → at + i < length w → seen at size past (set w (at + i) v) ≡ put i v (seen at size past w)
+  seen-in w i v l h = fun-ext (λ x. go x (ℕ-discrete x i) (decLt x size))
+    where
+      go : (x : ℕ) → Dec (x ≡ i) → Dec (x < size) → seen at size past (set w (at + i) v) x ≡ put i v (seen at size past w) x
+      go x (yes q) d = rw (q, put-hit i v (seen at size past w), seen-at (set w (at + i) v) i l) (getD-set-same w (at + i) v 0 h)
+      go x (no q) (yes d) = rw (put-miss i v (seen at size past w) x q, seen-at (set w (at + i) v) x d, seen-at w x d) (getD-set-other w (at + i) (at + x) v 0 (λ e. q (omega arith)))
+      go x (no q) (no d) = rw (put-miss i v (seen at size past w) x q, seen-past (set w (at + i) v) x (omega arith), seen-past w x (omega arith))
+
+  pub seen-out : (w : List ℕ) (j v : ℕ) → (j < at) ⊎ (at + size ≤ j) → seen at size past (set w j v) ≡ seen at size past w
+  seen-out w j v h = seen-same w (set w j v) (λ x l. getD-set-other w j (at + x) v 0 (other x l h))
+    where
+      other : (x : ℕ) → x < size → (j < at) ⊎ (at + size ≤ j) → at + x ≢ j
+      other x l (inl k) e = omega arith
+      other x l (inr k) e = omega arith
+
+  -- A region before or behind the frame is kept.
+  pub seen-within : {a e : ℕ} {w w′ : List ℕ} → Within a e w w′ → (at + size ≤ a) ⊎ (e ≤ at) → seen at size past w′ ≡ seen at size past w
+  seen-within {a} {e} {w} {w′} f h = seen-same w w′ (λ x l. f .same (at + x) (out x l h))
+    where
+      out : (x : ℕ) → x < size → (at + size ≤ a) ⊎ (e ≤ at) → (at + x < a) ⊎ (e ≤ at + x)
+      out x l (inl k) = inl (omega arith)
+      out x l (inr k) = inr (omega arith)
+
+-- Frames.
+pub within-refl : {a e : ℕ} (w : List ℕ) → Within a e w w
+within-refl w = record { size = refl; same = λ i h. refl }
+
+pub within-trans : {a e : ℕ} {w w′ w″ : List ℕ} → Within a e w w′ → Within a e w′ w″ → Within a e w w″
+within-trans f g = record { size = g .size ∙ f .size; same = λ i h. g .same i h ∙ f .same i h }
+
+pub within-wider : {a e : ℕ} (a′ e′ : ℕ) {w w′ : List ℕ} → a′ ≤ a → e ≤ e′ → Within a e w w′ → Within a′ e′ w w′
+within-wider {a} {e} a′ e′ l k f = record { size = f .size; same = λ i h. f .same i (out i h) }
+  where
+    out : (i : ℕ) → (i < a′) ⊎ (e′ ≤ i) → (i < a) ⊎ (e ≤ i)
+    out i (inl h) = inl (omega arith)
+    out i (inr h) = inr (omega arith)
+
+pub within-set : (a e : ℕ) (w : List ℕ) (j v : ℕ) → a ≤ j → j < e → Within a e w (set w j v)
+within-set a e w j v l k = record { size = length-set w j v; same = λ i h. getD-set-other w j i v 0 (other i h) }
+  where
+    other : (i : ℕ) → (i < a) ⊎ (e ≤ i) → i ≢ j
+    other i (inl h) q = omega arith
+    other i (inr h) q = omega arith
+
+-- Gathered lists.
+module _ {A : Type 0} where
+  pub length-gather : (f : ℕ → A) (n : ℕ) → length (gather f n) ≡ n
+  length-gather f zero = refl
+  length-gather f (suc n) = length-append (gather f n) (f n ∷ []) ∙ rw (length-gather f n) (omega arith)
+
+  pub gather-same : (f g : ℕ → A) (n : ℕ) → ((i : ℕ) → i < n → f i ≡ g i) → gather f n ≡ gather g n
+  gather-same f g zero h = refl
+  gather-same f g (suc n) h = rw (gather-same f g n (λ i l. h i (omega arith)), h n (omega arith))
+
+  pub gather-in : (f : ℕ → A) (n i : ℕ) → i < n → List·Memᴰ (f i) (gather f n)
+  gather-in f zero i l = absurd (omega arith)
+  gather-in f (suc n) i l = go (gather-in f n i) (ℕ-discrete i n)
+    where
+      go : (i < n → List·Memᴰ (f i) (gather f n)) → Dec (i ≡ n) → List·Memᴰ (f i) (gather f n ++ (f n ∷ []))
+      go r (yes q) = Memᴰ·append-right (gather f n) (List·Memᴰ·head (ap f q))
+      go r (no q) = Memᴰ·append-left (f n ∷ []) (r (omega arith))
+
+  pub in-gather : (f : ℕ → A) (n : ℕ) (x : A) → List·Memᴰ x (gather f n) → (i : ℕ) × (i < n) × (f i ≡ x)
+  in-gather f zero x m = absurd (List·Memᴰ·not-nil m)
+  in-gather f (suc n) x m = elim (List·Memᴰ·append-cases (gather f n) m) [
+    | inl k ↦ let r = in-gather f n x k in (r .0, omega (arith, r .1), r .2)
+    | inr k ↦ (n, omega arith, sym (List·Memᴰ·eq-of-singleton k))
+  ]
+
+  pub getD-gather : (f : ℕ → A) (n i : ℕ) (d : A) → i < n → getD (gather f n) i d ≡ f i
+  getD-gather f zero i d l = absurd (omega arith)
+  getD-gather f (suc n) i d l = go (getD-gather f n i d) (ℕ-discrete i n)
+    where
+      go : (i < n → getD (gather f n) i d ≡ f i) → Dec (i ≡ n) → getD (gather f n ++ (f n ∷ [])) i d ≡ f i
+      go r (no q) = List·getD-append (gather f n) (f n ∷ []) d i (rw (length-gather f n) (omega arith)) ∙ r (omega arith)
+      go r (yes q) = ap (λ (j : ℕ). getD (gather f n ++ (f n ∷ [])) j d) (q ∙ sym (length-gather f n)) ∙ getD-append-seam (gather f n) (f n) [] d ∙ sym (ap f q)

@@ -1,0 +1,98 @@
+-- The work table as the layers above see it: each named region is a function from its own numbers, and the records, the
+-- list and the joins that the table holds are read off these functions. The map itself is drawn in src/lib.rt.
+-- Assumes nothing.
+use Prim.Native.Nat.{ℕ, zero, suc, _+_, _≤_, _<_}
+use mathlib.Core.Path.{_≡_}
+use mathlib.Core.Logic.{_⊎_}
+use mathlib.Core.Bool.{Bool, true, false, cond}
+use mathlib.Core.List.{List, [], _∷_, _++_}
+use lib.Dec.{eqb, ltb}
+use lib.ListN.{length, getD}
+use Rattle.meaning.specs.Following.{Rec, eq, app}
+use Rattle.meaning.specs.Joins.{Join, by, cong}
+use Rattle.meaning.proofs.Reference.{Small}
+
+-- A region that begins at `at` and has `size` places; what lies past its end is given by a rule, so that laws need no bound.
+unfoldable pub seen : ℕ → ℕ → (ℕ → ℕ) → List ℕ → ℕ → ℕ
+seen at size past w x = cond (ltb x size) (getD w (at + x) 0) (past x)
+
+-- By record number: the tags of the record. A result of 65,535, which is no tag, marks an equation.
+abbrev pub leftOf : List ℕ → ℕ → ℕ
+leftOf w = seen 0 4001 (λ x. 0) w
+
+abbrev pub rightOf : List ℕ → ℕ → ℕ
+rightOf w = seen 4001 4001 (λ x. 0) w
+
+abbrev pub resultOf : List ℕ → ℕ → ℕ
+resultOf w = seen 8002 4001 (λ x. 0) w
+
+-- By tag: the tag it was linked under, and the age of the join that did so (1,000 where it leads its class).
+abbrev pub parentOf : List ℕ → ℕ → ℕ
+parentOf w = seen 12003 1000 (λ x. x) w
+
+abbrev pub ageOf : List ℕ → ℕ → ℕ
+ageOf w = seen 13003 1000 (λ x. 1000) w
+
+-- By age: the join's first record, its second (0 for the join of an equation), and the record at which it was made.
+abbrev pub firstOf : List ℕ → ℕ → ℕ
+firstOf w = seen 14003 1000 (λ x. 0) w
+
+abbrev pub secondOf : List ℕ → ℕ → ℕ
+secondOf w = seen 15003 1000 (λ x. 0) w
+
+abbrev pub whenOf : List ℕ → ℕ → ℕ
+whenOf w = seen 16003 1000 (λ x. 0) w
+
+-- By place in the list: a record number.
+abbrev pub listOf : List ℕ → ℕ → ℕ
+listOf w = seen 17003 4000 (λ x. 0) w
+
+-- Scratch of the closure. By tag: the label. By place in the list: one more than the next place of the chain, or 0. By bucket:
+-- one more than the first place of the chain, or 0.
+abbrev pub labelOf : List ℕ → ℕ → ℕ
+labelOf w = seen 21003 1000 (λ x. x) w
+
+abbrev pub nextOf : List ℕ → ℕ → ℕ
+nextOf w = seen 22003 4000 (λ x. 0) w
+
+abbrev pub headOf : List ℕ → ℕ → ℕ
+headOf w = seen 26003 4093 (λ x. 0) w
+
+-- By age: 1 where the join was taken into a reason.
+abbrev pub markOf : List ℕ → ℕ → ℕ
+markOf w = seen 30096 1000 (λ x. 0) w
+
+-- The first n values of f, in order.
+abbrev pub gather : {A : Type 0} → (ℕ → A) → ℕ → List A
+gather f zero = []
+gather f (suc n) = gather f n ++ (f n ∷ [])
+
+-- The record of number k, records 1 to n, and the first n numbers of the list.
+abbrev pub recAt : List ℕ → ℕ → Rec
+recAt w k = cond (eqb (resultOf w k) 65535) (eq (leftOf w k) (rightOf w k)) (app (leftOf w k) (rightOf w k) (resultOf w k))
+
+abbrev pub recordsIn : ℕ → List ℕ → List Rec
+recordsIn n w = gather (λ k. recAt w (suc k)) n
+
+abbrev pub listIn : ℕ → List ℕ → List ℕ
+listIn n w = gather (listOf w) n
+
+-- The join of age a: of the two tags of an equation, or of the results of two applications.
+abbrev pub joinBy : List ℕ → ℕ → ℕ → Join
+joinBy w k k′ = cond (eqb k′ 0) (record { u = leftOf w k; v = rightOf w k; why = by k }) (record { u = resultOf w k; v = resultOf w k′; why = cong k k′ })
+
+abbrev pub joinAt : List ℕ → ℕ → Join
+joinAt w a = joinBy w (firstOf w a) (secondOf w a)
+
+-- The table holds N tags' records 1 to len in its columns.
+pub record Loaded (N len : ℕ) (w : List ℕ) : Type 0 where
+  pub long : 32768 ≤ length w
+  pub some : 1 ≤ N
+  pub few : N ≤ 1000
+  pub most : len ≤ 4000
+  pub small : (k : ℕ) → k < len → Small N (recAt w (suc k))
+
+-- From w to w′ nothing changed but numbers from a up to e.
+pub record Within (a e : ℕ) (w w′ : List ℕ) : Type 0 where
+  pub size : length w′ ≡ length w
+  pub same : (i : ℕ) → (i < a) ⊎ (e ≤ i) → getD w′ i 0 ≡ getD w i 0
