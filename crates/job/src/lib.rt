@@ -7,7 +7,8 @@ ghost use mathlib.Core.Bool.{_&&_};
 ghost use lib.Dec.{ltb, leb};
 ghost use lib.ListN.{length};
 ghost use Rattle.job.specs.Reading.{numberAt, kindAt, laterKind, known, bodyLength, bodyAt, ofKind, fieldAt, orElse, counted, numbered, checked, behind, reading};
-ghost use Rattle.job.specs.Answer.{numberOf, kindOf, said, spanOfField, told, summary, tally, Going, Turned};
+ghost use Rattle.job.specs.Answer.{numberOf, kindOf, said, spanOfField, told, summary};
+ghost use Rattle.job.specs.Turns.{tally, Going, Turned};
 use meaning::Tag;
 
 // At most so many records, so many questions, and so many tags.
@@ -148,6 +149,13 @@ fn tag(job: &[u8], at: usize) -> Tag
     Tag(number(job, at))
 }
 
+// Whether a tag is one of a job with so many.
+fn is_below(tag: Tag, size: u16) -> bool
+    ensures { λ r. ⌜ r ≡ ltb (tag .0) size ⌝ }
+{
+    tag.0 < size
+}
+
 // The body of a kind, at a place where all of it is there.
 fn body(job: &[u8], at: usize, kind: Kind) -> Field
     requires { ⌜ at + bodyLength (kindOf kind) ≤ length (now job) ⌝ }
@@ -239,12 +247,6 @@ fn is_size(n: u16) -> bool
     ensures { λ r. ⌜ r ≡ (ltb 0 n && leb n 1000) ⌝ }
 {
     if 0 < n { n <= MOST_TAGS } else { false }
-}
-
-fn is_below(tag: Tag, size: u16) -> bool
-    ensures { λ r. ⌜ r ≡ ltb (tag .0) size ⌝ }
-{
-    tag.0 < size
 }
 
 fn are_below(a: Tag, b: Tag, size: u16) -> bool
