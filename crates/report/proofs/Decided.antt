@@ -4,16 +4,16 @@
 use Prim.Native.Nat.{ℕ, suc, _+_, _*_, _-_, _/_, _%_, _≤_, _<_}
 use native.Mathlib.Omega.{arith}
 use native.Mathlib.Decide.{ℕ-discrete, decLt, decLe}
-use mathlib.Core.Path.{_≡_, refl, sym, _∙_, ap, subst}
+use mathlib.Core.Path.{_≡_, refl, sym, _∙_, ap}
 use mathlib.Core.Logic.{_⊎_, inl, inr}
-use mathlib.Core.List.{List, [], _∷_, _++_, append-nil, append-assoc}
+use mathlib.Core.List.{List, [], _∷_, _++_, append-nil}
 use lib.Dec.{leb}
 use lib.ListN.{length, take, drop, length-append, take-append-drop}
 use lib.Seq.{take-append-seam, length-take-le}
 use Rattle.meaning.specs.Following.{Rec, UpTo, Leader, Follows}
 use Rattle.meaning.specs.Reasons.{Reason}
 use Rattle.meaning.specs.Totals.{Classes, Idle, Idles}
-use Rattle.meaning.proofs.Decide.{label, label-leader, upTo-test, decUpTo, decLeader, decIdle, countIt}
+use Rattle.meaning.proofs.Decide.{label-leader, upTo-test, decUpTo, decLeader, decIdle, countIt}
 use Rattle.meaning.proofs.Laws.{reason-decided}
 use Rattle.job.specs.Items.{Item, noted, ask, explain}
 use Rattle.report.specs.Report.{two, numbers, front, field, Answers, led, because, apart, Totalled, total, Sound, totals, passed, answered}
