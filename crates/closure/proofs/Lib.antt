@@ -1,3 +1,6 @@
 pub mod Chain
 pub mod Loops
 pub mod Rows
+pub mod Joining
+pub mod Views
+pub mod Uniting

@@ -6,10 +6,10 @@ use mathlib.Core.Logic.{_≢_, _⊎_}
 use mathlib.Core.Bool.{Bool, true, false, cond}
 use mathlib.Core.List.{List, List·Memᴰ}
 use lib.Dec.{T, eqb, leb}
-use lib.ListN.{length, getD}
+use lib.ListN.{length, getD, set}
 use Rattle.meaning.specs.Following.{Rec, Follows, Only}
 use Rattle.meaning.specs.Joins.{Join, Grounds, Justified, all, numbersOf, used, count}
-use Rattle.meaning.specs.Labels.{Labels, classes}
+use Rattle.meaning.specs.Labels.{Labels, into, classes}
 use Rattle.meaning.specs.Forest.{root, History}
 use Rattle.meaning.proofs.Exact.{Settled}
 use Rattle.table.specs.Map.{leftOf, rightOf, resultOf, parentOf, ageOf, whenOf, listOf, labelOf, nextOf, headOf, joinBy, joinAt, recordsIn, listIn, Within}
@@ -117,6 +117,14 @@ pub record Unifying (t : Task) (w : List ℕ) (p i n : ℕ) : Type 0 where
   pub app : eqnOf w i ≡ false
   pub found : p ≡ look (keyOf w) (headOf w) (nextOf w) (keyOf w i)
   pub hit : 0 < p
+
+-- The label hi became lo; the five stores that keep a join.
+pub record Relabelled (w w′ : List ℕ) (lo hi : ℕ) : Type 0 where
+  pub frame : Within 21003 22003 w w′
+  pub labels : labelOf w′ ≡ (λ x. into lo hi (labelOf w x))
+
+abbrev pub noted : List ℕ → ℕ → ℕ → ℕ → ℕ → ℕ → ℕ → List ℕ
+noted w lo hi n k k′ m = set (set (set (set (set w (12003 + hi) lo) (13003 + hi) n) (14003 + n) k) (15003 + n) k′) (16003 + n) m
 
 -- A record's arguments can be read; a chain can be followed.
 pub record Readable (w : List ℕ) (k : ℕ) : Type 0 where

@@ -13,7 +13,7 @@ ghost use mathlib.Core.Bool.{true, false};
 ghost use Rattle.meaning.specs.Labels.{into};
 ghost use Rattle.table.specs.Map.{nextOf, headOf, Loaded};
 ghost use Rattle.closure.specs.Chain.{seekTo, hits};
-ghost use Rattle.closure.specs.State.{Fills, CountsUp, keyIn, keyOf, eqnOf, Readable, Seeking, Joining, Joined, Stepping, Stepped, Unifying, State, Passed, Rested, Between, Admitted, Begun};
+ghost use Rattle.closure.specs.State.{Fills, CountsUp, Relabelled, noted, keyIn, keyOf, eqnOf, Readable, Seeking, Joining, Joined, Stepping, Stepped, Unifying, State, Passed, Rested, Between, Admitted, Begun};
 ghost use Rattle.closure.specs.Closing.{Listed, Closing, Entailing};
 use meaning::RecordNo;
 use meaning::Tag;
@@ -85,15 +85,32 @@ fn relabel(part: &mut [u16], hi: u16, lo: u16)
     }
 }
 
+// The label hi becomes lo for every tag.
+fn merge(work: &mut [u16], lo: Tag, hi: Tag)
+    requires { ⌜ (32768 ≤ length (now work)) × (hi .0 < 1000) ⌝ }
+    ensures { λ _. ⌜ Relabelled (now (work .entry)) (now (work .exit)) (lo .0) (hi .0) ⌝ }
+{
+    relabel(&mut work[LABEL..NEXT], hi.0, lo.0);
+}
+
+// The join of age `joins` is kept: it linked hi under lo, its records are two, and it was made at a third.
+fn note(work: &mut [u16], joins: usize, first: RecordNo, second: RecordNo, when: RecordNo, lo: Tag, hi: Tag)
+    requires { ⌜ (32768 ≤ length (now work)) × (hi .0 < 1000) × (joins < 1000) ⌝ }
+    ensures { λ _. ⌜ now (work .exit) ≡ noted (now (work .entry)) (lo .0) (hi .0) joins (first .0) (second .0) (when .0) ⌝ }
+{
+    table::put_link(work, hi, lo, joins);
+    table::put_join(work, joins, first, second, when);
+}
+
 // The class labelled hi goes to that labelled lo, by a join that is kept if the task says so.
 fn unite(work: &mut [u16], task: Task, joins: usize, first: RecordNo, second: RecordNo, lo: Tag, hi: Tag)
     requires { ⌜ Joining task (now work) joins (first .0) (second .0) (lo .0) (hi .0) × (lo .0 < hi .0) ⌝ }
     ensures { λ _. ⌜ Joined task (now (work .entry)) (now (work .exit)) joins ⌝ }
 {
-    relabel(&mut work[LABEL..NEXT], hi.0, lo.0);
+    merge(work, lo, hi);
     if task.keep {
-        table::put_link(work, hi, lo, joins);
-        table::put_join(work, joins, first, second, RecordNo(task.places as u16));
+        let n = task.places;
+        note(work, joins, first, second, RecordNo(n as u16), lo, hi);
     }
 }
 
