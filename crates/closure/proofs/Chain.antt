@@ -84,7 +84,7 @@ pub chains-up : {eqn : ℕ → Bool} {hd nx : ℕ → ℕ} {i j : ℕ} → i ≤
 chains-up l t = record { heads = λ b. omega (arith, t .heads b); falls = t .falls; head-app = t .head-app; next-app = t .next-app }
 
 -- What holds of each place below i, and of i, holds of each below suc i.
-below : (P : ℕ → Type 0) (i : ℕ) → ((j : ℕ) → j < i → P j) → P i → (j : ℕ) → j < suc i → P j
+pub below : (P : ℕ → Type 0) (i : ℕ) → ((j : ℕ) → j < i → P j) → P i → (j : ℕ) → j < suc i → P j
 below P i h p j l = by-same j i (λ e. rw e p) (λ n. h j (omega arith))
 
 module _ (eqn : ℕ → Bool) (key res hd nx : ℕ → ℕ) (i : ℕ) (t : Chains eqn hd nx i) where

@@ -4,3 +4,4 @@ pub mod Rows
 pub mod Joining
 pub mod Views
 pub mod Uniting
+pub mod Steps

@@ -96,13 +96,13 @@ pub record Stepped (t : Task) (w : List ℕ) (i n : ℕ) (w′ : List ℕ) (n′
   pub more : n ≤ n′
   pub valid : n′ ≡ n → Valid w i → Valid w′ (suc i)
 
--- All places were met; and met until no join came.
-pub record Passed (t : Task) (w : List ℕ) (n : ℕ) (w′ : List ℕ) (n′ : ℕ) : Type 0 where
+-- The first i places were met; and all of them, until no join came.
+pub record Passed (t : Task) (w : List ℕ) (n i : ℕ) (w′ : List ℕ) (n′ : ℕ) : Type 0 where
   pub state : State t w′ n′
   pub kept : Kept (t .keep) w w′
-  pub chains : Chained w′ (t .places)
+  pub chains : Chained w′ i
   pub more : n ≤ n′
-  pub valid : n′ ≡ n → Valid w′ (t .places)
+  pub valid : n′ ≡ n → Valid w′ i
 
 pub record Rested (t : Task) (w : List ℕ) (n : ℕ) (w′ : List ℕ) (n′ : ℕ) : Type 0 where
   pub state : State t w′ n′
@@ -118,10 +118,28 @@ pub record Unifying (t : Task) (w : List ℕ) (p i n : ℕ) : Type 0 where
   pub found : p ≡ look (keyOf w) (headOf w) (nextOf w) (keyOf w i)
   pub hit : 0 < p
 
--- The label hi became lo; the five stores that keep a join.
+-- Parts that were written: the label hi became lo; each tag is its own label; no chains; no links; records 1, 2, 3, .. listed; and the five stores that
+-- keep a join.
 pub record Relabelled (w w′ : List ℕ) (lo hi : ℕ) : Type 0 where
   pub frame : Within 21003 22003 w w′
   pub labels : labelOf w′ ≡ (λ x. into lo hi (labelOf w x))
+
+pub record Fresh (w w′ : List ℕ) : Type 0 where
+  pub frame : Within 21003 22003 w w′
+  pub labels : (x : ℕ) → labelOf w′ x ≡ x
+
+pub record Cleared (w w′ : List ℕ) : Type 0 where
+  pub frame : Within 22003 30096 w w′
+  pub heads : (b : ℕ) → headOf w′ b ≡ 0
+  pub nexts : (r : ℕ) → nextOf w′ r ≡ 0
+
+pub record Unlinked (w w′ : List ℕ) : Type 0 where
+  pub frame : Within 13003 14003 w w′
+  pub ages : (x : ℕ) → ageOf w′ x ≡ 1000
+
+pub record Enlisted (w w′ : List ℕ) : Type 0 where
+  pub frame : Within 17003 21003 w w′
+  pub listed : (j : ℕ) → j < 4000 → listOf w′ j ≡ suc j
 
 abbrev pub noted : List ℕ → ℕ → ℕ → ℕ → ℕ → ℕ → ℕ → List ℕ
 noted w lo hi n k k′ m = set (set (set (set (set w (12003 + hi) lo) (13003 + hi) n) (14003 + n) k) (15003 + n) k′) (16003 + n) m

@@ -13,7 +13,7 @@ ghost use mathlib.Core.Bool.{true, false};
 ghost use Rattle.meaning.specs.Labels.{into};
 ghost use Rattle.table.specs.Map.{nextOf, headOf, Loaded};
 ghost use Rattle.closure.specs.Chain.{seekTo, hits};
-ghost use Rattle.closure.specs.State.{Fills, CountsUp, Relabelled, noted, keyIn, keyOf, eqnOf, Readable, Seeking, Joining, Joined, Stepping, Stepped, Unifying, State, Passed, Rested, Between, Admitted, Begun};
+ghost use Rattle.closure.specs.State.{Fills, CountsUp, Relabelled, Fresh, Cleared, Unlinked, Enlisted, noted, keyIn, keyOf, eqnOf, Readable, Seeking, Joining, Joined, Stepping, Stepped, Unifying, State, Passed, Rested, Between, Admitted, Begun};
 ghost use Rattle.closure.specs.Closing.{Listed, Closing, Entailing};
 use meaning::RecordNo;
 use meaning::Tag;
@@ -100,6 +100,38 @@ fn note(work: &mut [u16], joins: usize, first: RecordNo, second: RecordNo, when:
 {
     table::put_link(work, hi, lo, joins);
     table::put_join(work, joins, first, second, when);
+}
+
+// Each tag is its own label.
+fn fresh(work: &mut [u16])
+    requires { ⌜ 32768 ≤ length (now work) ⌝ }
+    ensures { λ _. ⌜ Fresh (now (work .entry)) (now (work .exit)) ⌝ }
+{
+    count_up(&mut work[LABEL..NEXT], 0);
+}
+
+// No place stands in a chain.
+fn clear(work: &mut [u16])
+    requires { ⌜ 32768 ≤ length (now work) ⌝ }
+    ensures { λ _. ⌜ Cleared (now (work .entry)) (now (work .exit)) ⌝ }
+{
+    fill(&mut work[NEXT..MARKS], 0);
+}
+
+// No tag is linked.
+fn unlink(work: &mut [u16])
+    requires { ⌜ 32768 ≤ length (now work) ⌝ }
+    ensures { λ _. ⌜ Unlinked (now (work .entry)) (now (work .exit)) ⌝ }
+{
+    fill(&mut work[AGE..FIRST], LEADS);
+}
+
+// The list names records 1, 2, 3, ..
+fn enlist(work: &mut [u16])
+    requires { ⌜ 32768 ≤ length (now work) ⌝ }
+    ensures { λ _. ⌜ Enlisted (now (work .entry)) (now (work .exit)) ⌝ }
+{
+    count_up(&mut work[LIST..LABEL], 1);
 }
 
 // The class labelled hi goes to that labelled lo, by a join that is kept if the task says so.
@@ -232,9 +264,9 @@ fn step(work: &mut [u16], task: Task, i: usize, joins: usize) -> usize
 // All places once, in order, with an empty table of chains; it goes on after a join.
 fn pass(work: &mut [u16], task: Task, joins: usize) -> usize
     requires { ⌜ State task (now work) joins ⌝ }
-    ensures { λ r. ⌜ Passed task (now (work .entry)) joins (now (work .exit)) r ⌝ }
+    ensures { λ r. ⌜ Passed task (now (work .entry)) joins (task .places) (now (work .exit)) r ⌝ }
 {
-    fill(&mut work[NEXT..MARKS], 0);
+    clear(work);
     let n = task.places;
     let mut made = joins;
     let mut i = 0;
@@ -278,10 +310,10 @@ fn begin(work: &mut [u16])
     requires { ⌜ 32768 ≤ length (now work) ⌝ }
     ensures { λ _. ⌜ Begun (now (work .entry)) (now (work .exit)) ⌝ }
 {
-    fill(&mut work[AGE..FIRST], LEADS);
-    count_up(&mut work[LIST..LABEL], 1);
-    count_up(&mut work[LABEL..NEXT], 0);
-    fill(&mut work[NEXT..MARKS], 0);
+    unlink(work);
+    enlist(work);
+    fresh(work);
+    clear(work);
 }
 
 // Closes records 1 to len of `size` tags, one after the other, and keeps the joins.
@@ -309,7 +341,7 @@ pub fn entails(work: &mut [u16], size: usize, len: usize, n: usize, s: Tag, t: T
     requires { ⌜ Listed size len n (now work) × (s .0 < size) × (t .0 < size) ⌝ }
     ensures { λ r. ⌜ Entailing size len n (s .0) (t .0) (now (work .entry)) (now (work .exit)) r ⌝ }
 {
-    count_up(&mut work[LABEL..NEXT], 0);
+    fresh(work);
     let task = Task { size: size, len: len, places: n, keep: false };
     settle(work, task, 0);
     let a = table::label(work, s);

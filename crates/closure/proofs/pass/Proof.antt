@@ -3,7 +3,7 @@ use Rattle.closure.proofs.pass.Statement.{statement}
 use Rattle.closure.proofs.pass.Tie as tie
 use Rattle.closure.proofs.pass.Reads as reads
 use Rattle.closure.proofs.pass.Lts as lts
-use Rattle.closure.proofs.fill.Reads as fill-reads
+use Rattle.closure.proofs.clear.Reads as clear-reads
 use Rattle.closure.proofs.step.Reads as step-reads
 use mathlib.Core.Path.{_≡_, refl, sym, ap, _∙_}
 use mathlib.Core.List.{List, map}
@@ -12,56 +12,42 @@ use native.Mathlib.Omega.{arith}
 use lib.ListN.{length, getD, set, take, drop, length-set}
 use mathlib.Core.Logic.{⊎-elim}
 use denote.Ref.{now}
+use Rattle.closure.specs.State.{Passed}
+use Rattle.closure.proofs.Steps.{passed-none, passed-step, passed-from}
 
 abbrev Inv-loop : tie.InvT-loop
-Inv-loop work₀ task joins n made₀ i₀ work made i = ?
+Inv-loop work₀ task joins n made₀ i₀ work made i = (i ≤ n) × Passed task work₀ joins i work made
 
 abbrev μ-loop : tie.MeasureT-loop
-μ-loop work₀ task joins n made₀ i₀ work made i = ?
+μ-loop work₀ task joins n made₀ i₀ work made i = n - i
 
-
-sub-fill : tie.Need-sub-fill Inv-loop μ-loop
-sub-fill c = ?
-
-
-part-fill-start : tie.Need-part-fill-start Inv-loop μ-loop
-part-fill-start c = ?
-
-
-part-fill-end : tie.Need-part-fill-end Inv-loop μ-loop
-part-fill-end c = ?
-
-
-fill-requires : tie.Need-fill-requires Inv-loop μ-loop
-fill-requires c κs = ?
-
+clear-requires : tie.Need-clear-requires Inv-loop μ-loop
+clear-requires c κs = c .before .before .pre .listed .loaded .long
 
 loop-holds : tie.Need-loop-holds Inv-loop μ-loop
-loop-holds c = ?
-
+loop-holds c = (omega arith, passed-none (c .before .before .before .before .before .pre) (c .before .before .clear .ensures))
 
 step-requires : tie.Need-step-requires Inv-loop μ-loop
-step-requires c κs = ?
-
+step-requires c κs = let p = c .before .before .loop .inv .1 in record { state = p .state; chains = p .chains; place = omega arith }
 
 add-i : tie.Need-add-i Inv-loop μ-loop
-add-i c = ?
-
+add-i c = let l = c .before .before .before .before .before in record { fits = omega (arith, l .loop .inv .1 .state .listed .short) }
 
 loop-less : tie.Need-loop-less Inv-loop μ-loop
-loop-less c = ?
-
+loop-less c = omega arith
 
 loop-again : tie.Need-loop-again Inv-loop μ-loop
-loop-again c = ?
-
+loop-again c = let l = c .before .before .before .before .before in (omega arith, passed-step (l .loop .inv .1) (c .before .before .step .ensures))
 
 same-length : tie.Need-same-length Inv-loop μ-loop
-same-length c = ?
-
+same-length c = c .before .loop .inv .1 .kept .frame .size ∙ c .before .before .before .before .clear .ensures .frame .size
 
 returns : tie.Need-returns Inv-loop μ-loop
-returns c = ?
+returns c =
+    let l = c .before in
+    let s = c .before .before .before .before .before .before .before in
+    let e : l .loop .i ≡ s .args .task .places = omega arith in
+    passed-from (c .before .before .before .before .clear .ensures) (rw e at (l .loop .inv .1))
 
 pub pass-spec : {M : Type 1} → statement M
 pass-spec =
@@ -69,10 +55,7 @@ pass-spec =
     (tie.spec
     Inv-loop
     μ-loop
-    sub-fill
-    part-fill-start
-    part-fill-end
-    fill-requires
+    clear-requires
     loop-holds
     step-requires
     add-i

@@ -18,27 +18,27 @@ Inv-loop work₀ task joins made₀ work made = ?
 abbrev μ-loop : tie.MeasureT-loop
 μ-loop work₀ task joins made₀ work made = ?
 
-
+-- src/lib.rt:286:5
 loop-holds : tie.Need-loop-holds Inv-loop μ-loop
 loop-holds c = search needs
 
-
+-- src/lib.rt:287:13
 pass-requires : tie.Need-pass-requires Inv-loop μ-loop
 pass-requires c κs = search needs
 
-
+-- src/lib.rt:289:13
 same-length : tie.Need-same-length Inv-loop μ-loop
 same-length c = search needs
 
-
+-- src/lib.rt:289:13
 returns : tie.Need-returns Inv-loop μ-loop
 returns c = search needs
 
-
+-- src/lib.rt:286:5
 loop-less : tie.Need-loop-less Inv-loop μ-loop
 loop-less c = search needs
 
-
+-- src/lib.rt:286:5
 loop-again : tie.Need-loop-again Inv-loop μ-loop
 loop-again c = search needs
 
