@@ -5,3 +5,4 @@ pub mod Joining
 pub mod Views
 pub mod Uniting
 pub mod Steps
+pub mod Moments

@@ -11,36 +11,35 @@ use native.Mathlib.Omega.{arith}
 use lib.ListN.{length, getD, set, take, drop, length-set}
 use mathlib.Core.Logic.{⊎-elim}
 use denote.Ref.{now}
+use Rattle.closure.specs.State.{State, Kept, Passed, Rested}
+use Rattle.closure.proofs.Steps.{kept-refl, kept-trans}
 
 abbrev Inv-loop : tie.InvT-loop
-Inv-loop work₀ task joins made₀ work made = ?
+Inv-loop work₀ task joins made₀ work made = State task work made × Kept (task .keep) work₀ work × (joins ≤ made)
 
 abbrev μ-loop : tie.MeasureT-loop
-μ-loop work₀ task joins made₀ work made = ?
+μ-loop work₀ task joins made₀ work made = task .size - made
 
--- src/lib.rt:286:5
 loop-holds : tie.Need-loop-holds Inv-loop μ-loop
-loop-holds c = search needs
+loop-holds c = (c .before .pre, kept-refl _ _, omega arith)
 
--- src/lib.rt:287:13
 pass-requires : tie.Need-pass-requires Inv-loop μ-loop
-pass-requires c κs = search needs
+pass-requires c κs = c .before .loop .inv .0
 
--- src/lib.rt:289:13
 same-length : tie.Need-same-length Inv-loop μ-loop
-same-length c = search needs
+same-length c = c .before .before .before .pass .ensures .kept .frame .size ∙ c .before .before .before .before .before .loop .inv .1 .frame .size
 
--- src/lib.rt:289:13
 returns : tie.Need-returns Inv-loop μ-loop
-returns c = search needs
+returns c =
+    let p = c .before .before .before .pass .ensures in
+    let l = c .before .before .before .before .before .loop .inv in
+    record { state = p .state; kept = kept-trans (l .1) (p .kept); chains = p .chains; more = omega (arith, p .more, l .2); valid = p .valid (c .if1 .taken) }
 
--- src/lib.rt:286:5
 loop-less : tie.Need-loop-less Inv-loop μ-loop
-loop-less c = search needs
+loop-less c = let p = c .before .before .before .pass .ensures in omega (arith, p .more, p .state .total, c .if1 .left)
 
--- src/lib.rt:286:5
 loop-again : tie.Need-loop-again Inv-loop μ-loop
-loop-again c = search needs
+loop-again c = let p = c .before .before .before .pass .ensures in let l = c .before .before .before .before .before .loop .inv in (p .state, kept-trans (l .1) (p .kept), omega (arith, p .more, l .2))
 
 pub settle-spec : {M : Type 1} → statement M
 settle-spec =
