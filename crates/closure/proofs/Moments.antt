@@ -3,6 +3,7 @@
 -- Assumes nothing.
 use Prim.Native.Nat.{ℕ, zero, suc, _+_, _-_, _≤_, _<_}
 use native.Mathlib.Omega.{arith}
+use native.Mathlib.Numerals.{add-one}
 use native.Mathlib.Decide.{ℕ-discrete, decLt}
 use mathlib.Core.Path.{_≡_, refl, sym, ap, _∙_, fun-ext}
 use mathlib.Core.Logic.{_≢_, _↔_, _⊎_, inl, inr}
@@ -140,17 +141,20 @@ state-next {N} {len} {i} {w} {n} b low = record {
   };
 }
 
+pub stepping-next : {N len i : ℕ} {w : List ℕ} {n : ℕ} → Between N len i w n → i < len → Stepping (whole N len (i + 1)) w i n
+stepping-next b low = rw add-one (record { state = state-next b low; chains = b .chains; place = omega arith })
+
 -- A record was admitted: with no join, or with some and then settled.
-pub admit-quiet : {N len i : ℕ} {w w′ : List ℕ} {n n′ : ℕ} → Between N len i w n → Stepped (whole N len (suc i)) w i n w′ n′ → n′ ≡ n → Admitted N len i w n w′ n
+pub admit-quiet : {N len i : ℕ} {w w′ : List ℕ} {n n′ : ℕ} → Between N len i w n → Stepped (whole N len (i + 1)) w i n w′ n′ → n′ ≡ n → Admitted N len i w n w′ n
 admit-quiet {N} {len} {i} {w} {w′} b s e = record {
-  between = record { state = rw e at (s .state); chains = s .chains; valid = s .valid e (b .valid); listed = rw (s .kept .list) (b .listed) };
+  between = record { state = rw (e, add-one) at (s .state); chains = s .chains; valid = s .valid e (b .valid); listed = rw (s .kept .list) (b .listed) };
   kept = s .kept;
   more = omega arith;
 }
 
-pub admit-settled : {N len i : ℕ} {w w′ w″ : List ℕ} {n n′ n″ : ℕ} → Between N len i w n → Stepped (whole N len (suc i)) w i n w′ n′ → Rested (whole N len (suc i)) w′ n′ w″ n″ → Admitted N len i w n w″ n″
+pub admit-settled : {N len i : ℕ} {w w′ w″ : List ℕ} {n n′ n″ : ℕ} → Between N len i w n → Stepped (whole N len (i + 1)) w i n w′ n′ → Rested (whole N len (i + 1)) w′ n′ w″ n″ → Admitted N len i w n w″ n″
 admit-settled b s r = record {
-  between = record { state = r .state; chains = r .chains; valid = r .valid; listed = rw (r .kept .list, s .kept .list) (b .listed) };
+  between = record { state = rw add-one at (r .state); chains = rw add-one at (r .chains); valid = rw add-one at (r .valid); listed = rw (r .kept .list, s .kept .list) (b .listed) };
   kept = kept-trans (s .kept) (r .kept);
   more = omega (arith, s .more, r .more);
 }
@@ -168,6 +172,10 @@ module _ {N len i : ℕ} {w w′ : List ℕ} {n n′ idle : ℕ} (b : Between N 
 
   pub idle-same : n′ ≢ n → Count (Idle N (recordsIn len w′)) (suc i) idle
   idle-same d = skip (λ h. d (let q = iff .0 h in omega (arith, low-now b (omega arith), low-now (a .between) low))) kept-count
+
+  pub idle-turn : (idle′ : ℕ) → ((n′ ≡ n) × (idle′ ≡ idle + 1)) ⊎ ((n′ ≢ n) × (idle′ ≡ idle)) → Count (Idle N (recordsIn len w′)) (i + 1) idle′
+  idle-turn idle′ (inl h) = rw (h .1, add-one, add-one) (idle-more (h .0))
+  idle-turn idle′ (inr h) = rw (h .1, add-one) (idle-same (h .0))
 
 pub close-done : {N len : ℕ} {w w′ : List ℕ} {n idle : ℕ} → Within 12003 30096 w w′ → Between N len len w′ n → Count (Idle N (recordsIn len w′)) len idle → Closing N len w w′ n idle
 close-done {N} {len} {w} {w′} f b c = let g = b .state .log tt in record {

@@ -84,7 +84,6 @@ module _ {t : Task} {w : List ℕ} {p i n : ℕ} (u : Unifying t w p i n) where
     filled = filled-skip (eqnOf w) (keyOf w) (resOf w) (headOf w) (nextOf w) i (u .step .chains) (rw (u .found) at (u .hit)) (rw (u .found) at (same (rw (ek, ek′) at e))) (v .filled);
     equal = below (λ j. eqnOf w j ≡ true → labelOf w (leftOf w (listOf w j)) ≡ labelOf w (rightOf w (listOf w j))) i (v .equal) (λ r. let z : _≡_ {A = ℕ} 0 1 = cc (u .app) in absurd (omega arith));
   })
-
     where
       same : resOf w (p - 1) ≡ resOf w i → resOf w (p - 1) ≡ resOf w i
       same e = e

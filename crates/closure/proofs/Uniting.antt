@@ -128,7 +128,7 @@ module _ {t : Task} {w : List ℕ} {n k k′ lo hi : ℕ} (J : Joining t w n k k
     sound = rw (lefts r, rights r, results r, l, b) (sound-join lo hi (J .state .sound) (J .due) (J .ends));
     total = rw b (omega (arith, fewer, J .state .total));
     log = λ y. let v = g y in rw (v .join, v .parent, v .age, v .when, lefts r, rights r, results r, l, b)
-      (logged-join (J .state .log y) lo hi (omega (arith, unite-young)) less (of-lo (J .ends)) (of-hi (J .ends) .0) (J .ends) (J .due) (J .some));
+        (logged-join (J .state .log y) lo hi (omega (arith, unite-young)) less (of-lo (J .ends)) (of-hi (J .ends) .0) (J .ends) (J .due) (J .some));
   }
 
   -- Where joins are not kept.

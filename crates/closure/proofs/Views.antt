@@ -113,7 +113,7 @@ module _ (w w′ v : List ℕ) (long : 32768 ≤ length w) where
 pub begun : {w a b c d : List ℕ} → Unlinked w a → Enlisted a b → Fresh b c → Cleared c d → Begun w d
 begun u l f z = record {
   frame = within-trans (within-wider 12003 30096 (omega arith) (omega arith) (u .frame)) (within-trans (within-wider 12003 30096 (omega arith) (omega arith) (l .frame))
-    (within-trans (within-wider 12003 30096 (omega arith) (omega arith) (f .frame)) (within-wider 12003 30096 (omega arith) (omega arith) (z .frame))));
+      (within-trans (within-wider 12003 30096 (omega arith) (omega arith) (f .frame)) (within-wider 12003 30096 (omega arith) (omega arith) (z .frame))));
   ages = λ x. rw (seen-within 13003 1000 (λ x. 1000) (z .frame) (inl (omega arith)), seen-within 13003 1000 (λ x. 1000) (f .frame) (inl (omega arith)), seen-within 13003 1000 (λ x. 1000) (l .frame) (inl (omega arith))) (u .ages x);
   listed = λ j h. rw (seen-within 17003 4000 (λ x. 0) (z .frame) (inl (omega arith)), seen-within 17003 4000 (λ x. 0) (f .frame) (inl (omega arith))) (l .listed j h);
   labels = λ x. rw (seen-within 21003 1000 (λ x. x) (z .frame) (inl (omega arith))) (f .labels x);

@@ -17,11 +17,11 @@ ghost use Rattle.closure.specs.State.{Fills, CountsUp, Relabelled, Fresh
 ghost use Rattle.closure.specs.Closing.{Listed, Closing, Entailing};
 use meaning::RecordNo;
 use meaning::Tag;
+use table::AGE;
+use table::FIRST;
 use table::LABEL;
 use table::LEADS;
 use table::LIST;
-use table::AGE;
-use table::FIRST;
 use table::MARKS;
 use table::NEXT;
 
@@ -94,7 +94,15 @@ fn merge(work: &mut [u16], lo: Tag, hi: Tag)
 }
 
 // The join of age `joins` is kept: it linked hi under lo, its records are two, and it was made at a third.
-fn note(work: &mut [u16], joins: usize, first: RecordNo, second: RecordNo, when: RecordNo, lo: Tag, hi: Tag)
+fn note(
+    work: &mut [u16],
+    joins: usize,
+    first: RecordNo,
+    second: RecordNo,
+    when: RecordNo,
+    lo: Tag,
+    hi: Tag,
+)
     requires { ⌜ (32768 ≤ length (now work)) × (hi .0 < 1000) × (joins < 1000) ⌝ }
     ensures { λ _. ⌜ now (work .exit) ≡ noted (now (work .entry)) (lo .0) (hi .0) joins (first .0) (second .0) (when .0) ⌝ }
 {
@@ -135,7 +143,15 @@ fn enlist(work: &mut [u16])
 }
 
 // The class labelled hi goes to that labelled lo, by a join that is kept if the task says so.
-fn unite(work: &mut [u16], task: Task, joins: usize, first: RecordNo, second: RecordNo, lo: Tag, hi: Tag)
+fn unite(
+    work: &mut [u16],
+    task: Task,
+    joins: usize,
+    first: RecordNo,
+    second: RecordNo,
+    lo: Tag,
+    hi: Tag,
+)
     requires { ⌜ Joining task (now work) joins (first .0) (second .0) (lo .0) (hi .0) × (lo .0 < hi .0) ⌝ }
     ensures { λ _. ⌜ Joined task (now (work .entry)) (now (work .exit)) joins ⌝ }
 {
@@ -147,7 +163,15 @@ fn unite(work: &mut [u16], task: Task, joins: usize, first: RecordNo, second: Re
 }
 
 // The classes labelled a and b become one: the smaller label stands for both.
-fn join(work: &mut [u16], task: Task, joins: usize, first: RecordNo, second: RecordNo, a: Tag, b: Tag)
+fn join(
+    work: &mut [u16],
+    task: Task,
+    joins: usize,
+    first: RecordNo,
+    second: RecordNo,
+    a: Tag,
+    b: Tag,
+)
     requires { ⌜ Joining task (now work) joins (first .0) (second .0) (a .0) (b .0) ⌝ }
     ensures { λ _. ⌜ Joined task (now (work .entry)) (now (work .exit)) joins ⌝ }
 {
@@ -297,7 +321,12 @@ fn admit(work: &mut [u16], size: usize, len: usize, i: usize, joins: usize) -> u
     requires { ⌜ Between size len i (now work) joins × (i < len) ⌝ }
     ensures { λ r. ⌜ Admitted size len i (now (work .entry)) joins (now (work .exit)) r ⌝ }
 {
-    let task = Task { size: size, len: len, places: i + 1, keep: true };
+    let task = Task {
+        size: size,
+        len: len,
+        places: i + 1,
+        keep: true,
+    };
     let after = step(work, task, i, joins);
     if after == joins {
         return joins;
@@ -333,7 +362,10 @@ pub fn close(work: &mut [u16], size: usize, len: usize) -> Totals
         joins = after;
         i += 1;
     }
-    Totals { joins: joins, idle: idle }
+    Totals {
+        joins: joins,
+        idle: idle,
+    }
 }
 
 // Whether s and t are equal by exactly the records that the list's first n numbers name.
@@ -342,7 +374,12 @@ pub fn entails(work: &mut [u16], size: usize, len: usize, n: usize, s: Tag, t: T
     ensures { λ r. ⌜ Entailing size len n (s .0) (t .0) (now (work .entry)) (now (work .exit)) r ⌝ }
 {
     fresh(work);
-    let task = Task { size: size, len: len, places: n, keep: false };
+    let task = Task {
+        size: size,
+        len: len,
+        places: n,
+        keep: false,
+    };
     settle(work, task, 0);
     let a = table::label(work, s);
     let b = table::label(work, t);

@@ -19,18 +19,14 @@ use Rattle.table.specs.Map.{leftOf, rightOf, labelOf}
 use Rattle.closure.proofs.Rows.{row-most, row-left, row-right}
 use Rattle.closure.proofs.Steps.{equate-stay, equate-due, joined-stepped}
 
-
 listed-requires : tie.Need-listed-requires
 listed-requires c κs = let p = c .before .before .pre .0 in (p .state .listed .loaded .long, omega (arith, p .place, p .state .listed .short))
-
 
 left-requires : tie.Need-left-requires
 left-requires c κs = let s = c .before .before .before .before in let p = s .pre .0 in (p .state .listed .loaded .long, rw (c .before .listed .ensures) (row-most (p .state .listed) (s .args .i) (p .place)))
 
-
 right-requires : tie.Need-right-requires
 right-requires c κs = let s = c .before .before .before .before .before .before in let p = s .pre .0 in (p .state .listed .loaded .long, rw (c .before .before .before .listed .ensures) (row-most (p .state .listed) (s .args .i) (p .place)))
-
 
 -- After the reads: where the function began, and the two labels.
 abbrev at-start : tie.After-label2 → tie.Start
@@ -49,7 +45,6 @@ label-requires c κs =
     let r = row-left (p .state .listed) (s .args .i) (p .place) in
     (p .state .listed .loaded .long, rw (c .before .before .before .left .ensures, c .before .before .before .before .before .listed .ensures) (omega (arith, p .state .listed .loaded .few)))
 
-
 label-requires-2 : tie.Need-label-requires-2
 label-requires-2 c κs =
     let s = c .before .before .before .before .before .before .before .before .before .before in
@@ -57,10 +52,8 @@ label-requires-2 c κs =
     let r = row-right (p .state .listed) (s .args .i) (p .place) in
     (p .state .listed .loaded .long, rw (c .before .before .before .right .ensures, c .before .before .before .before .before .before .before .listed .ensures) (omega (arith, p .state .listed .loaded .few)))
 
-
 same-length : tie.Need-same-length
 same-length c = search needs
-
 
 returns : tie.Need-returns
 returns c =
@@ -77,10 +70,8 @@ join-requires c κs =
 add-result : tie.Need-add-result
 add-result c = let s = c .before .before .before .before .before .before .before .before .before .before .before .before .before .before .before .before .before .before in record { fits = omega (arith, s .pre .0 .state .total, s .pre .0 .state .listed .loaded .few) }
 
-
 same-length-2 : tie.Need-same-length-2
 same-length-2 c = search needs
-
 
 returns-2 : tie.Need-returns-2
 returns-2 c = let s = c .before .before .before .before .before .before .before .before .before .before .before .before .before .before .before .before .before .before in joined-stepped (s .pre .0) (c .before .before .join .ensures)

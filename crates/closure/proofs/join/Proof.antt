@@ -13,26 +13,20 @@ use mathlib.Core.Logic.{⊎-elim}
 use denote.Ref.{now}
 use Rattle.closure.proofs.Uniting.{joining-flip}
 
-
 unite-requires : tie.Need-unite-requires
 unite-requires c κs = (c .before .before .before .before .before .pre, c .before .if1 .taken)
-
 
 unite-requires-2 : tie.Need-unite-requires-2
 unite-requires-2 c κs = let s = c .before .before .before .before .before in (joining-flip (s .pre), omega (arith, s .pre .apart, c .before .if1 .left))
 
-
 same-length : tie.Need-same-length
 same-length c = search needs
-
 
 returns : tie.Need-returns
 returns c = c .before .before .unite .ensures
 
-
 same-length-2 : tie.Need-same-length-2
 same-length-2 c = search needs
-
 
 returns-2 : tie.Need-returns-2
 returns-2 c = c .before .before .unite2 .ensures

@@ -13,26 +13,20 @@ use mathlib.Core.Logic.{⊎-elim}
 use denote.Ref.{now}
 use Rattle.closure.proofs.Views.{relabelled}
 
-
 sub-relabel : tie.Need-sub-relabel
 sub-relabel c = search needs
-
 
 part-relabel-start : tie.Need-part-relabel-start
 part-relabel-start c = search needs
 
-
 part-relabel-end : tie.Need-part-relabel-end
 part-relabel-end c = search needs
-
 
 relabel-requires : tie.Need-relabel-requires
 relabel-requires c κs = search needs
 
-
 same-length : tie.Need-same-length
 same-length c = search needs
-
 
 returns : tie.Need-returns
 returns c =

@@ -13,18 +13,14 @@ use lib.ListN.{length, getD, set, take, drop, length-set}
 use mathlib.Core.Logic.{⊎-elim}
 use denote.Ref.{now}
 
-
 put-link-requires : tie.Need-put-link-requires
 put-link-requires c κs = search needs
-
 
 put-join-requires : tie.Need-put-join-requires
 put-join-requires c κs = search needs
 
-
 same-length : tie.Need-same-length
 same-length c = search needs
-
 
 returns : tie.Need-returns
 returns c = cc

@@ -46,7 +46,7 @@ loop-again c =
     let l = c .before .before .before in
     let a = l .before .args in
     let v : c .if1 .w ≡ into (a .lo) (a .hi) (getD (l .loop .part) (l .loop .i) 0) =
-      ⊎-elim (λ w. w .1 ∙ sym (rw (w .0 .taken) (into-hit (a .lo) (a .hi)))) (λ w. w .1 ∙ sym (into-miss _ _ _ (w .0 .left))) (c .if1 .came) in
+    ⊎-elim (λ w. w .1 ∙ sym (rw (w .0 .taken) (into-hit (a .lo) (a .hi)))) (λ w. w .1 ∙ sym (into-miss _ _ _ (w .0 .left))) (c .if1 .came) in
     (omega arith, simp length-set (l .loop .inv .1), map-turn _ (now (a .part)) (l .loop .part) (l .loop .i) _ (omega arith) (l .loop .inv .2) v)
 
 same-length : tie.Need-same-length Inv-loop μ-loop

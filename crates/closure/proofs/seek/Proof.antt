@@ -65,10 +65,11 @@ loop-again c =
     let l = c .before .before .before .before .before in
     let s = l .before .before in
     let n : keyOf (now (s .args .work)) (l .loop .p - 1) ≡ s .args .x → ⊥ =
-      λ e. c .before .if1 .left (c .before .before .key .ensures ∙ rw (c .before .before .before .listed .ensures) e) in
-    rw (c .next .ensures)
-    ( omega (arith, s .pre .falls (l .loop .p - 1)),
-      seek-next _ (hits (keyOf (now (s .args .work))) (s .args .x)) (s .pre .falls) (l .loop .p) (omega arith) (ne-eqb _ _ n) ∙ l .loop .inv .1 )
+    λ e. c .before .if1 .left (c .before .before .key .ensures ∙ rw (c .before .before .before .listed .ensures) e) in
+    rw (c .next .ensures) (
+      omega (arith, s .pre .falls (l .loop .p - 1)),
+      seek-next _ (hits (keyOf (now (s .args .work))) (s .args .x)) (s .pre .falls) (l .loop .p) (omega arith) (ne-eqb _ _ n) ∙ l .loop .inv .1,
+    )
 
 returns-2 : tie.Need-returns-2 Inv-loop μ-loop
 returns-2 c =
