@@ -3,3 +3,5 @@ pub mod Kept
 pub mod Known
 pub mod Moments
 pub mod Crossing
+pub mod Gathering
+pub mod Noting

@@ -1,2 +1,4 @@
 pub mod Meeting
 pub mod Tracing
+pub mod Listing
+pub mod Rising
