@@ -4,4 +4,6 @@ pub mod Known
 pub mod Moments
 pub mod Crossing
 pub mod Gathering
+pub mod Sparing
 pub mod Noting
+pub mod Whole
