@@ -22,3 +22,16 @@ count-of P p (suc N) h = go (p N) (h N (omega arith)) (count-of P p N (λ x l. h
     go : (b : Bool) → P N ↔ T b → Count P N (count p N) → Count P (suc N) (tick b (count p N))
     go true e c = one (e .1 tt) c
     go false e c = skip (e .0) c
+
+-- What is in P is in Q: so Q counts no less.
+pub count-more : {P Q : ℕ → Type 0} {N n m : ℕ} → ((x : ℕ) → P x → Q x) → Count P N n → Count Q N m → n ≤ m
+count-more h none none = omega arith
+count-more h (one p c) (one q d) = omega (arith, count-more h c d)
+count-more h (one p c) (skip q d) = absurd (q (h _ p))
+count-more h (skip p c) (one q d) = omega (arith, count-more h c d)
+count-more h (skip p c) (skip q d) = count-more h c d
+
+pub count-most : {P : ℕ → Type 0} {N n : ℕ} → Count P N n → n ≤ N
+count-most none = omega arith
+count-most (one p c) = omega (arith, count-most c)
+count-most (skip p c) = omega (arith, count-most c)

@@ -15,7 +15,8 @@ use Rattle.meaning.specs.Labels.{Labels}
 use Rattle.meaning.specs.Totals.{Count, none, one, skip, Classes, Idle, Idles}
 use Rattle.meaning.specs.Cases.{Claim, follow, apart, leader, reason, unsound, classes, idle, Says}
 use Rattle.meaning.proofs.Close.{more-of, complete}
-use Rattle.meaning.proofs.Count.{count-one, count-of}
+use Rattle.meaning.proofs.Count.{count-one}
+use Rattle.meaning.proofs.Leaders.{leader-of}
 use Rattle.meaning.proofs.Reference.{Small, State, Done, done, done-same, any-below}
 use Rattle.meaning.proofs.Short.{among, among-in, in-among}
 
@@ -74,10 +75,7 @@ module _ (rs : List Rec) (p : ℕ → Bool) (P : ℕ → Type 0) (e : (k : ℕ) 
   decFollows s t = decIff (Iff·symm (label-same s t)) (ℕ-discrete (label rs p s) (label rs p t))
 
   pub label-leader : (s : ℕ) → Leader (Those rs P) s (label rs p s)
-  label-leader s = record {
-    member = label-same s (label rs p s) .1 (sym (label-labels rs p .flat s));
-    least = λ x f. rw (label-same s x .0 f) (label-labels rs p .low x);
-  }
+  label-leader = leader-of (label-labels rs p) label-same
 
   unfoldable pub decLeader : (s l : ℕ) → Dec (Leader (Those rs P) s l)
   unfolding label ℕ-discrete

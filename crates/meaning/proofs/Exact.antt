@@ -14,8 +14,9 @@ use Rattle.meaning.specs.Reasons.{Above, lastOf, FirstAt, Reason}
 use Rattle.meaning.specs.Joins.{Join, Joined, Justified, used, all, count}
 use Rattle.meaning.specs.Labels.{Labels, classes, Agree}
 use Rattle.meaning.specs.Trim.{Trimmed}
-use Rattle.meaning.specs.Totals.{Classes, Idle}
+use Rattle.meaning.specs.Totals.{Classes, Idle, Idles}
 use Rattle.meaning.proofs.Close.{more-of, Closed, complete}
+use Rattle.meaning.proofs.Leaders.{leader-of, classes-of}
 use Rattle.meaning.proofs.Log.{linked-follows}
 use Rattle.meaning.proofs.Count.{count-of, count-one}
 use Rattle.meaning.proofs.Trim.{last-is-first}
@@ -35,38 +36,33 @@ module _ {rs : List Rec} {P : ℕ → Type 0} {e : ℕ → Join} {n : ℕ} {f : 
   settled-same s t = (λ h. complete (d .closed) h, λ q. linked-follows rs e all P n (d .sound) (d .within) s t (d .agree .joins s t q))
 
   pub settled-leader : (s : ℕ) → Leader (Those rs P) s (f s)
-  settled-leader s = record {
-    member = settled-same s (f s) .1 (sym (d .labels .flat s));
-    least = λ x h. rw (settled-same s x .0 h) (d .labels .low x);
-  }
+  settled-leader = leader-of (d .labels) settled-same
 
   pub settled-classes : (N : ℕ) → Classes N (Those rs P) (classes f N)
-  settled-classes N = count-of (λ x. Leader (Those rs P) x x) (λ x. eqb (f x) x) N (λ x l. (own x, led x))
-    where
-      own : (x : ℕ) → Leader (Those rs P) x x → T (eqb (f x) x)
-      own x h = rw (eq-eqb (f x) x (omega (arith, d .labels .low x, h .least (f x) (settled-leader x .member)))) tt
+  settled-classes = classes-of (d .labels) settled-same
 
-      led : (x : ℕ) → T (eqb (f x) x) → Leader (Those rs P) x x
-      led x t = rw (eqb→eq (f x) x t) at (settled-leader x)
+-- A reason from a rising list within 1..k that entails and of which none can be spared, with k the first that entails: the other points follow.
+pub reason-list : (N : ℕ) (rs : List Rec) → ((i : ℕ) → i < length rs → Small N (getD rs i (eq 0 0))) → (R s t k : ℕ) (L : List ℕ)
+    → s ≢ t → k ≤ R → FirstAt rs s t k → Above 0 L → ((n : ℕ) → List·Memᴰ n L → n ≤ k) → Follows (Only rs L) s t
+    → ((m : ℕ) → List·Memᴰ m L → Follows (Without rs L m) s t → ⊥) → Reason N rs R s t L
+reason-list N rs small R s t k L d l f a u h spare = record {
+  rising = a;
+  stand = λ n i. omega (arith, u n i);
+  entails = h;
+  empty = λ p. absurd (d p);
+  last = λ _. rw (last-is-first rs s t k L f a u h) f;
+  unspared = spare;
+  short = unspared-short N rs small s t L a h spare;
+}
 
--- a reason from a trimmed set of numbers, listed in order
+-- The same from a trimmed set of numbers, listed in order.
 pub reason-of : (N : ℕ) (rs : List Rec) → ((i : ℕ) → i < length rs → Small N (getD rs i (eq 0 0))) → (R s t k : ℕ) (X : ℕ → Type 0) (L : List ℕ)
     → s ≢ t → k ≤ R → FirstAt rs s t k → Trimmed rs s t X (suc k) → ((n : ℕ) → X n → n ≤ k) → Above 0 L → ((n : ℕ) → List·Memᴰ n L ↔ X n)
     → Reason N rs R s t L
-reason-of N rs small R s t k X L d l f h u a e = record {
-  rising = a;
-  stand = λ n i. omega (arith, u n (e n .0 i));
-  entails = more-of (λ n. e n .1) (h .entails);
-  empty = λ p. absurd (d p);
-  last = λ _. rw (last-is-first rs s t k L f a (λ n i. u n (e n .0 i)) (more-of (λ n. e n .1) (h .entails))) f;
-  unspared = spare;
-  short = unspared-short N rs small s t L a (more-of (λ n. e n .1) (h .entails)) spare;
-}
-  where
-    spare : (m : ℕ) → List·Memᴰ m L → Follows (Without rs L m) s t → ⊥
-    spare m i g = h .unspared m (omega (arith, u m (e m .0 i))) (e m .0 i) (more-of (λ n j. (e n .0 (j .0), j .1)) g)
+reason-of N rs small R s t k X L d l f h u a e = reason-list N rs small R s t k L d l f a (λ n i. u n (e n .0 i)) (more-of (λ n. e n .1) (h .entails))
+    (λ m i g. h .unspared m (omega (arith, u m (e m .0 i))) (e m .0 i) (more-of (λ n j. (e n .0 (j .0), j .1)) g))
 
--- a tag is equal to itself for no reason
+-- A tag is equal to itself, and no record is needed for it.
 pub reason-same : (N : ℕ) (rs : List Rec) (R s : ℕ) → Reason N rs R s s []
 reason-same N rs R s = record {
   rising = tt;
@@ -78,7 +74,7 @@ reason-same N rs R s = record {
   short = omega arith;
 }
 
--- later records change nothing that is said of a front
+-- Later records change nothing that is said of a front.
 pub at-front : (rs qs : List Rec) {k : ℕ} {r : Rec} → At rs k r → At (rs ++ qs) k r
 at-front rs qs h = record { place = h .place; number = h .number; stands = rw length-append (omega (arith, h .stands)); is = List·getD-append rs qs (eq 0 0) (h .place) (h .stands) ∙ h .is }
 
@@ -87,16 +83,28 @@ front-at rs qs l h =
     let i : h .place < length rs = omega (arith, h .number) in
     record { place = h .place; number = h .number; stands = i; is = sym (List·getD-append rs qs (eq 0 0) (h .place) i) ∙ h .is }
 
--- the first front is one, and two questions find it
+-- The first k is found by two questions, ..
 pub first-at : {rs : List Rec} {s t k : ℕ} → Follows (UpTo rs (suc k)) s t → (Follows (UpTo rs k) s t → ⊥) → FirstAt rs s t (suc k)
 first-at f h = record { then = f; before = λ n l g. h (more-of (λ m i. omega arith) g) }
 
+-- .. there is only one, ..
 pub first-one : {rs : List Rec} {s t k k′ : ℕ} → FirstAt rs s t k → FirstAt rs s t k′ → k ≡ k′
 first-one {k = k} {k′ = k′} f f′ =
     let a : ¬ (k < k′) = λ l. f′ .before k l (f .then) in
     let b : ¬ (k′ < k) = λ l. f .before k′ l (f′ .then) in
     omega arith
 
--- a record is idle where the two numbers of classes are one
+-- .. and a rising list within 1..k+1 that entails, where 1..k do not, ends with it.
+pub last-at : (rs : List Rec) (s t k : ℕ) (L : List ℕ) → (Follows (UpTo rs k) s t → ⊥) → Above 0 L → ((n : ℕ) → List·Memᴰ n L → n ≤ suc k) → Follows (Only rs L) s t → lastOf 0 L ≡ suc k
+last-at rs s t k L h a u e = last-is-first rs s t (suc k) L (first-at (more-of u e) h) a u e
+
+-- A record is idle where the two numbers of classes are one, ..
 pub idle-iff : {N : ℕ} {rs : List Rec} {k n n′ : ℕ} → Classes N (UpTo rs k) n → Classes N (UpTo rs (suc k)) n′ → Idle N rs k ↔ (n ≡ n′)
 idle-iff {n = n} c c′ = (λ i. count-one c (i .1) ∙ count-one (i .2) c′, λ q. (n, c, rw q c′))
+
+-- .. so the idle records are counted by comparing those numbers, one record after the other.
+pub idles-of : (N : ℕ) (rs : List Rec) (cl : ℕ → ℕ) → ((k : ℕ) → k ≤ length rs → Classes N (UpTo rs k) (cl k)) → Idles N rs (count (λ k. eqb (cl k) (cl (suc k))) (length rs))
+idles-of N rs cl c = count-of (Idle N rs) (λ k. eqb (cl k) (cl (suc k))) (length rs) (λ k l. go k (idle-iff (c k (omega arith)) (c (suc k) l)))
+  where
+    go : (k : ℕ) → Idle N rs k ↔ (cl k ≡ cl (suc k)) → Idle N rs k ↔ T (eqb (cl k) (cl (suc k)))
+    go k e = (λ i. rw (eq-eqb (cl k) (cl (suc k)) (e .0 i)) tt, λ t. e .1 (eqb→eq (cl k) (cl (suc k)) t))

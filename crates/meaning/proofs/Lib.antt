@@ -4,11 +4,13 @@ pub mod Trim
 pub mod Relabel
 pub mod Rising
 pub mod Count
+pub mod Leaders
 pub mod Reference
 pub mod Short
 pub mod Decide
 pub mod Cases
 pub mod Exact
+pub mod Laws
 pub mod Forest
 pub mod Walk
 pub mod Table

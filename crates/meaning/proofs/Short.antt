@@ -13,7 +13,9 @@ use Rattle.meaning.specs.Following.{Rec, eq, Follows, Those, Only, Witho
 use Rattle.meaning.specs.Reasons.{Above}
 use Rattle.meaning.specs.Joins.{Join, used, all, count, tick}
 use Rattle.meaning.specs.Labels.{Labels, classes}
+use Rattle.meaning.specs.Totals.{Classes}
 use Rattle.meaning.proofs.Close.{more-of}
+use Rattle.meaning.proofs.Leaders.{classes-of, classes-more}
 use Rattle.meaning.proofs.Log.{joined-follows, used-short}
 use Rattle.meaning.proofs.Rising.{rising-short}
 use Rattle.meaning.proofs.Reference.{Small, State, Done, done, done-same, stable}
@@ -62,25 +64,30 @@ pub some-class : (N : ℕ) (f : ℕ → ℕ) → Labels f → 1 ≤ N → 1 ≤ 
 some-class zero f l h = omega arith
 some-class (suc n) f l h = count-first (λ x. eqb (f x) x) n (eq-eqb (f 0) 0 (omega (arith, l .low 0)))
 
-module _ (N : ℕ) (rs : List Rec) (small : (i : ℕ) → i < length rs → Small N (getD rs i (eq 0 0))) (s t : ℕ) (L : List ℕ) where
-  pub unspared-short : Above 0 L → Follows (Only rs L) s t → ((m : ℕ) → List·Memᴰ m L → Follows (Without rs L m) s t → ⊥) → length L ≤ 2 * (N - 1)
-  unspared-short a e u = go (decLt 0 N)
+module _ (N : ℕ) (rs : List Rec) (small : (i : ℕ) → i < length rs → Small N (getD rs i (eq 0 0))) (s t : ℕ) (L : List ℕ) (rising : Above 0 L) (entails : Follows (Only rs L) s t) (unspared : (m : ℕ) → List·Memᴰ m L → Follows (Without rs L m) s t → ⊥) where
+  abbrev d : Done N rs small (among L)
+  d = done N rs small (among L)
+
+  abbrev st : State N rs small (among L)
+  st = d .state
+
+  again : Follows (Only rs (used (st .e) all (st .n))) s t
+  again = joined-follows rs (st .e) (st .n) (st .sound) (st .agree .joins s t (done-same N rs small (among L) d s t .0 (more-of (in-among L) entails)))
+
+  used-all : (m : ℕ) → List·Memᴰ m L → List·Memᴰ m (used (st .e) all (st .n))
+  used-all m i = stable (λ h. unspared m i (more-of (λ n j. (among-in L n (st .within n j), λ q. h (rw (← q) j))) again)) (decAmong (used (st .e) all (st .n)) m)
+
+  own : length L ≤ 2 * (N - classes (st .f) N)
+  own = omega (arith, rising-short 0 L (used (st .e) all (st .n)) rising used-all, used-short (st .e) all (st .n), count-all (st .n), st .total)
+
+  -- C is the number of classes of any records that those of the list are among.
+  pub unspared-tight : (P : ℕ → Type 0) (C : ℕ) → ((k : ℕ) → List·Memᴰ k L → P k) → Classes N (Those rs P) C → length L ≤ 2 * (N - C)
+  unspared-tight P C within c =
+      omega (arith, own, classes-more (λ r i. (i .0, within (i .0) (among-in L (i .0) (i .1)), i .2)) (classes-of (st .labels) (done-same N rs small (among L) d) N) c)
+
+  pub unspared-short : length L ≤ 2 * (N - 1)
+  unspared-short = go (decLt 0 N)
     where
-      d : Done N rs small (among L)
-      d = done N rs small (among L)
-
-      st : State N rs small (among L)
-      st = d .state
-
-      some : 1 ≤ N → 1 ≤ classes (st .f) N
-      some = some-class N (st .f) (st .labels)
-
-      again : Follows (Only rs (used (st .e) all (st .n))) s t
-      again = joined-follows rs (st .e) (st .n) (st .sound) (st .agree .joins s t (done-same N rs small (among L) d s t .0 (more-of (in-among L) e)))
-
-      used-all : (m : ℕ) → List·Memᴰ m L → List·Memᴰ m (used (st .e) all (st .n))
-      used-all m i = stable (λ h. u m i (more-of (λ n j. (among-in L n (st .within n j), λ q. h (rw (← q) j))) again)) (decAmong (used (st .e) all (st .n)) m)
-
       go : Dec (0 < N) → length L ≤ 2 * (N - 1)
-      go (yes h) = omega (arith, rising-short 0 L (used (st .e) all (st .n)) a used-all, used-short (st .e) all (st .n), count-all (st .n), st .total, some h)
-      go (no h) = omega (arith, rising-short 0 L (used (st .e) all (st .n)) a used-all, used-short (st .e) all (st .n), count-all (st .n), st .total)
+      go (yes h) = omega (arith, own, some-class N (st .f) (st .labels) h)
+      go (no h) = omega (arith, own)
