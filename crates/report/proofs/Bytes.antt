@@ -6,7 +6,7 @@ use native.Mathlib.Omega.{arith}
 use mathlib.Core.Path.{_≡_, refl, sym, _∙_, ap}
 use mathlib.Core.List.{List, [], _∷_, _++_}
 use lib.ListN.{length, length-append}
-use Rattle.report.specs.Report.{two, numbers, field}
+use Rattle.report.specs.Report.{two, numbers, front, field}
 
 pub length-two : (n : ℕ) → length (two n) ≡ 2
 unfolding two
@@ -18,7 +18,7 @@ length-numbers [] = refl
 length-numbers (n ∷ ns) = omega (arith, length-numbers ns)
 
 pub length-field : (kind : ℕ) (body : List ℕ) → length (field kind body) ≡ 3 + length body
-unfolding field two
+unfolding field front two
 length-field kind body = omega arith
 
 -- Two bytes name one number, and two bytes name each number below 65,536.
@@ -65,7 +65,7 @@ numbers-append (m ∷ ms) ns = rw (numbers-append ms ns)
 
 -- Where two fields begin the same bytes, they are one and so is what stands behind them.
 pub field-one : (k k′ : ℕ) (b b′ x y : List ℕ) → field k b ++ x ≡ field k′ b′ ++ y → (k ≡ k′) × (b ≡ b′) × (x ≡ y)
-unfolding field two
+unfolding field front two
 field-one k k′ b b′ x y e =
     let p : k ≡ k′ = cc in
     let hi : length b / 256 ≡ length b′ / 256 = cc in

@@ -77,3 +77,7 @@ module _ (at : ℕ) (bs room : List ℕ) (fits : at + length bs ≤ length room)
       ∙ ap (λ (k : ℕ). (take at room ++ bs) ++ (cs ++ drop k room)) e
       ∙ append-assoc (take at room) bs (cs ++ drop (at + length (bs ++ cs)) room)
       ∙ ap (λ (r : List ℕ). take at room ++ r) (sym (append-assoc bs cs (drop (at + length (bs ++ cs)) room)))
+
+-- The same where a step of the code has left the room as w and goes on at n.
+pub laid-then : (at n : ℕ) (bs cs room w : List ℕ) → at + length bs ≤ length room → n ≡ at + length bs → w ≡ laid at bs room → laid n cs w ≡ laid at (bs ++ cs) room
+laid-then at n bs cs room w fits e h = rw (e, h) (laid-on at bs room fits cs)
