@@ -120,15 +120,21 @@ with i (accepted N is) = accepted N (i ∷ is)
 abbrev pub behind : List ℕ → ℕ → ℕ → Reading
 behind job N at = cond (leb (length job) at) (accepted N []) (refused 8 at)
 
+-- The bytes that an item's field fills: three before its body, and its body.
+abbrev pub spanOf : Item → ℕ
+spanOf (noted (eq a b)) = 7
+spanOf (noted (app a b c)) = 9
+spanOf (ask s t) = 7
+spanOf (explain s t) = 7
+
 -- What a field at a place leads to, with N, R and Q as they stand before it: a refusal has the field's first byte for its place; from
 -- the others reading goes on behind the field.
 abbrev pub onward : (ℕ → ℕ → ℕ → ℕ → Reading) → List ℕ → ℕ → ℕ → ℕ → ℕ → Field → Reading
 onward read job N R Q at (bad n) = refused n at
 onward read job N R Q at (header M) = read M R Q (at + 5)
-onward read job N R Q at (item (noted (eq a b))) = with (noted (eq a b)) (read N (suc R) Q (at + 7))
-onward read job N R Q at (item (noted (app a b c))) = with (noted (app a b c)) (read N (suc R) Q (at + 9))
-onward read job N R Q at (item (ask s t)) = with (ask s t) (read N R (suc Q) (at + 7))
-onward read job N R Q at (item (explain s t)) = with (explain s t) (read N R (suc Q) (at + 7))
+onward read job N R Q at (item (noted r)) = with (noted r) (read N (suc R) Q (at + spanOf (noted r)))
+onward read job N R Q at (item (ask s t)) = with (ask s t) (read N R (suc Q) (at + spanOf (ask s t)))
+onward read job N R Q at (item (explain s t)) = with (explain s t) (read N R (suc Q) (at + spanOf (explain s t)))
 onward read job N R Q at end = behind job N (at + 3)
 
 -- Reading from a place, at most so many fields. A field has three bytes at least, so that a number above the bytes that are left is
