@@ -4,7 +4,9 @@ ghost use mathlib.Core.Path.{_≡_};
 ghost use Prim.Native.Nat.{ℕ, _+_, _≤_, _<_};
 ghost use lib.ListN.{length};
 ghost use Rattle.haltzurme.specs.Run.{Ran, Cleared};
-use job::{read_job, number_of, Read};
+use job::Read;
+use job::number_of;
+use job::read_job;
 
 // Document 01's limits: the longest job, and the named places of the work table.
 pub const LONGEST: usize = 43008;

@@ -38,7 +38,12 @@ pub fn clear(records: &mut [Record])
     requires { ⌜ 4000 ≤ length (now records) ⌝ }
     ensures { λ _. ⌜ Blanked (now (records .entry)) (now (records .exit)) ⌝ }
 {
-    let none = Record { kind: 0, a: Tag(0), b: Tag(0), c: Tag(0) };
+    let none = Record {
+        kind: 0,
+        a: Tag(0),
+        b: Tag(0),
+        c: Tag(0),
+    };
     let mut i = 0;
     while i < NAMED {
         records[i] = none;
