@@ -47,3 +47,7 @@ module _ {A : Type 0} (d : A) where
 
 pub cleared-blanked : (t : List Record) → Blanked t (cleared blank t 4000)
 cleared-blanked t = record { size = length-cleared blank t 4000; zero = getD-cleared blank t 4000; rest = drop-cleared blank t 4000 }
+
+-- A table that was filled before it was cleared is as it was behind its named places.
+pub blanked-over : (t t′ t″ : List Record) → length t′ ≡ length t → drop 4000 t′ ≡ drop 4000 t → Blanked t′ t″ → Blanked t t″
+blanked-over t t′ t″ l d b = record { size = b .size ∙ l; zero = b .zero; rest = b .rest ∙ d }

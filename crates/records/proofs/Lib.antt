@@ -2,3 +2,4 @@ pub mod Rows
 pub mod Again
 pub mod Lent
 pub mod Cleared
+pub mod Places
