@@ -34,7 +34,7 @@ pub struct Spot {
 // The leaders of two tags, as a field at a place of the room; the place behind it.
 fn answer_ask(
     room: &mut [u8],
-    work: &mut [u16],
+    work: &[u16],
     c: Closed,
     before: usize,
     out: usize,
@@ -42,7 +42,7 @@ fn answer_ask(
     t: Tag,
 ) -> usize
     requires { ⌜ Facing (now work) (now room) (c .size) (c .len) (c .joins) before out (ask (s .0) (t .0)) ⌝ }
-    ensures { λ end. ⌜ Answered (now (work .entry)) (now (room .entry)) (c .size) (c .len) before out (ask (s .0) (t .0)) (now (work .exit)) (now (room .exit)) end ⌝ }
+    ensures { λ end. ⌜ Answered (now (work .entry)) (now (room .entry)) (c .size) (c .len) before out (ask (s .0) (t .0)) (now (work .entry)) (now (room .exit)) end ⌝ }
 {
     let age = age_after(work, c.joins, before);
     let l = leader(work, age, s);
