@@ -1,1 +1,3 @@
 pub mod Seeking
+pub mod Filling
+pub mod Loading

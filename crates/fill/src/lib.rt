@@ -4,12 +4,14 @@ ghost use mathlib.Core.Path.{_≡_};
 ghost use Prim.Native.Nat.{_<_, _≤_};
 ghost use lib.ListN.{length};
 ghost use Rattle.job.specs.Reading.{fieldAt};
-ghost use Rattle.fill.specs.Filling.{foundAt, Seeks};
+ghost use Rattle.fill.specs.Filling.{foundAt, Seeks, Filled};
+ghost use Rattle.fill.specs.Loading.{carry, Loadable, Carried};
 use job::Field;
 use job::field_at;
 use meaning::RecordNo;
 use meaning::Tag;
-use records::Record;
+use records::{fetch, store, Record};
+use table::{put_application, put_equation};
 
 // What the cursor found at a place: a question, which is passed over, or a record as it stands in the record table; and where the next field stands.
 pub struct Found {
@@ -105,4 +107,48 @@ pub fn next_record(job: &[u8], at: usize) -> Found
         f = look(job, next);
     }
     f
+}
+
+// The first n records of the job come to the first n places of the record table.
+pub fn fill(job: &[u8], records: &mut [Record], n: usize)
+    requires { ⌜ n ≤ length (now records) ⌝ }
+    ensures { λ _. ⌜ Filled (now (job .entry)) n (now (records .entry)) (now (records .exit)) ⌝ }
+{
+    let mut at = 5;
+    let mut i = 0;
+    while i < n {
+        let found = next_record(job, at);
+        store(records, i, found.place);
+        at = found.next;
+        i = i + 1;
+    }
+}
+
+// What stands at place i comes to the columns, as record number i + 1.
+fn load_one(work: &mut [u16], i: usize, p: Record)
+    requires { ⌜ (32768 ≤ length (now work)) × (i < 4000) ⌝ }
+    ensures { λ _. ⌜ now (work .exit) ≡ carry (now (work .entry)) i p ⌝ }
+{
+    let r = RecordNo(i as u16 + 1);
+    let a = p.a;
+    let b = p.b;
+    let c = p.c;
+    if p.kind == 1 {
+        put_equation(work, r, a, b);
+    } else {
+        put_application(work, r, a, b, c);
+    }
+}
+
+// The records in the first n places come to the work table's columns, as records 1 to n.
+pub fn load(records: &[Record], n: usize, work: &mut [u16])
+    requires { ⌜ Loadable n (now records) (now work) ⌝ }
+    ensures { λ _. ⌜ Carried n (now (records .entry)) (now (work .entry)) (now (work .exit)) ⌝ }
+{
+    let mut i = 0;
+    while i < n {
+        let p = fetch(records, i);
+        load_one(work, i, p);
+        i = i + 1;
+    }
 }
