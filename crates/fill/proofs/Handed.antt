@@ -4,7 +4,8 @@
 use Prim.Native.Nat.{ℕ, zero, suc, _≤_, _<_}
 use native.Mathlib.Nat.{not-suc-le-zero, le-of-suc-le-suc}
 use native.Mathlib.Omega.{arith}
-use mathlib.Core.Path.{_≡_, refl, sym, _∙_, ap}
+use mathlib.Core.Path.{_≡_, refl, sym, _∙_, ap, subst}
+use mathlib.Core.Logic.{_⊎_, inl, inr}
 use mathlib.Core.List.{List, [], _∷_}
 use lib.ListN.{length, getD}
 use Rattle.meaning.specs.Following.{Rec, eq, app}
@@ -20,6 +21,8 @@ use Rattle.table.specs.Map.{gather, recAt, recordsIn, Loaded}
 use Rattle.table.proofs.Frame.{length-gather, getD-gather, gather-same}
 use Rattle.fill.specs.Filling.{Filled}
 use Rattle.fill.specs.Loading.{held, Loadable, Carried}
+use Rattle.fill.specs.Handing.{Counts, Handable, Handed}
+use Rattle.fill.proofs.Filling.{drop-further}
 
 -- ---- lists
 module _ {A : Type 0} where
@@ -93,3 +96,33 @@ module _ (job : List ℕ) (N : ℕ) (items : List Item) (e : reading job ≡ acc
         most = taken .records;
         small = λ k b. rw (sym (getD-gather (λ i. recAt w′ (suc i)) n k (eq 0 0) b) ∙ ap (λ (l : List Rec). getD l k (eq 0 0)) carried-records) (job-small k b);
       }
+
+-- ---- the whole way, for `take_in`
+module _ (job : List ℕ) (t : List Record) (w : List ℕ) (n : ℕ) (h : Handable job t w n) where
+  pub few : n ≤ 4000
+  few = go (h .count)
+    where
+      go : (n ≡ 0) ⊎ Counts job n → n ≤ 4000
+      go (inl z) = omega arith
+      go (inr c) = omega (arith, c .records, accepted-stands job (c .size) (c .items) (c .reads) .records)
+
+  pub handable-fills : n ≤ length t
+  handable-fills = omega (arith, few, h .places)
+
+  pub handable-loads : (t′ : List Record) → Filled job n t t′ → Loadable n t′ w
+  handable-loads t′ f = go (h .count)
+    where
+      go : (n ≡ 0) ⊎ Counts job n → Loadable n t′ w
+      go (inl z) = subst (λ (k : ℕ). Loadable k t′ w) (sym z) (none-loadable t′ w (h .numbers))
+      go (inr c) =
+          subst (λ (k : ℕ). Loadable k t′ w) (sym (c .records))
+          (filled-loadable job (c .size) (c .items) (c .reads) t t′ (subst (λ (k : ℕ). Filled job k t t′) (c .records) f) w (omega (arith, handable-fills, c .records)) (h .numbers))
+
+  pub taken-in : (t′ : List Record) (w′ : List ℕ) → Filled job n t t′ → Carried n t′ w w′ → Handed job t w n t′ w′
+  taken-in t′ w′ f c = record {
+    size = f .size;
+    rest = drop-further n 4000 t′ t few (f .rest);
+    frame = c .frame;
+    loaded = λ N items e k. subst (λ (m : ℕ). Loaded N m w′) (sym k) (carried-loaded job N items e t t′ (subst (λ (m : ℕ). Filled job m t t′) k f) w w′ (subst (λ (m : ℕ). Carried m t′ w w′) k c) (h .numbers));
+    records = λ N items e k. subst (λ (m : ℕ). recordsIn m w′ ≡ recordsOf items) (sym k) (carried-records job N items e t t′ (subst (λ (m : ℕ). Filled job m t t′) k f) w w′ (subst (λ (m : ℕ). Carried m t′ w w′) k c));
+  }

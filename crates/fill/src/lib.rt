@@ -6,6 +6,7 @@ ghost use lib.ListN.{length};
 ghost use Rattle.job.specs.Reading.{fieldAt};
 ghost use Rattle.fill.specs.Filling.{foundAt, Seeks, Filled};
 ghost use Rattle.fill.specs.Loading.{carry, Loadable, Carried};
+ghost use Rattle.fill.specs.Handing.{Handable, Handed};
 use job::Field;
 use job::field_at;
 use meaning::RecordNo;
@@ -151,4 +152,13 @@ pub fn load(records: &[Record], n: usize, work: &mut [u16])
         load_one(work, i, p);
         i = i + 1;
     }
+}
+
+// The first n records of the job come to the record table, and from there to the columns.
+pub fn take_in(job: &[u8], records: &mut [Record], work: &mut [u16], n: usize)
+    requires { ⌜ Handable (now job) (now records) (now work) n ⌝ }
+    ensures { λ _. ⌜ Handed (now (job .entry)) (now (records .entry)) (now (work .entry)) n (now (records .exit)) (now (work .exit)) ⌝ }
+{
+    fill(job, records, n);
+    load(records, n, work);
 }
