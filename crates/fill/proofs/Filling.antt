@@ -1,7 +1,7 @@
 -- The loop of `fill`: the places below i hold the records below i, and the cursor stands where the records from i on stand ahead. Each
 -- turn finds the next one and stores it.
 -- Assumes nothing.
-use Prim.Native.Nat.{ℕ, zero, suc, _+_, _≤_, _<_}
+use Prim.Native.Nat.{ℕ, zero, suc, _≤_, _<_}
 use native.Mathlib.Nat.{not-suc-le-zero}
 use native.Mathlib.Omega.{arith}
 use native.Mathlib.Decide.{ℕ-discrete}
@@ -12,7 +12,7 @@ use lib.Seq.{drop-cons, getD-set-same, getD-set-other}
 use Rattle.meaning.specs.Following.{Rec, eq}
 use Rattle.job.specs.Items.{Item, accepted, recordsOf}
 use Rattle.job.specs.Reading.{reading}
-use Rattle.job.specs.Standing.{Stands, Job}
+use Rattle.job.specs.Standing.{Stands}
 use Rattle.job.proofs.Standing.{accepted-stands}
 use Rattle.records.specs.declared.Record.{Record}
 use Rattle.records.specs.Table.{blank, placeOf}

@@ -12,13 +12,13 @@ use Rattle.meaning.specs.Following.{Rec, eq, app}
 use Rattle.meaning.proofs.Reference.{Small}
 use Rattle.job.specs.Items.{Item, noted, ask, explain, accepted, recordsOf}
 use Rattle.job.specs.Reading.{reading}
-use Rattle.job.specs.Standing.{Tagged, Stands, ends, next, Job}
+use Rattle.job.specs.Standing.{Tagged, Stands, next, Job}
 use Rattle.job.proofs.Standing.{accepted-stands}
 use Rattle.records.specs.declared.Record.{Record}
-use Rattle.records.specs.Table.{blank, placeOf, recOf}
+use Rattle.records.specs.Table.{blank, recOf}
 use Rattle.records.proofs.Places.{place-means}
-use Rattle.table.specs.Map.{gather, recAt, recordsIn, Loaded}
-use Rattle.table.proofs.Frame.{length-gather, getD-gather, gather-same}
+use Rattle.table.specs.Map.{recAt, recordsIn, Loaded}
+use Rattle.table.proofs.Frame.{length-gather, getD-gather}
 use Rattle.fill.specs.Filling.{Filled}
 use Rattle.fill.specs.Loading.{held, Loadable, Carried}
 use Rattle.fill.specs.Handing.{Counts, Handable, Handed}

@@ -16,7 +16,7 @@ use Rattle.meaning.proofs.Log.{put-hit, put-miss}
 use Rattle.meaning.proofs.Reference.{Small}
 use Rattle.records.specs.declared.Record.{Record}
 use Rattle.records.specs.Table.{blank, recOf}
-use Rattle.table.specs.Map.{leftOf, rightOf, resultOf, recAt, recordsIn, gather, Within}
+use Rattle.table.specs.Map.{leftOf, rightOf, resultOf, recAt, recordsIn, Within}
 use Rattle.table.proofs.Frame.{seen-in, seen-out, within-refl, within-trans, within-set, gather-same}
 use Rattle.fill.specs.Loading.{held, carry, Loadable, Carried}
 

@@ -4,6 +4,8 @@ ghost use mathlib.Core.Path.{_≡_};
 ghost use Prim.Native.Nat.{_<_, _≤_};
 ghost use lib.ListN.{length};
 ghost use Rattle.job.specs.Reading.{fieldAt};
+ghost use Rattle.meaning.specs.Following.{eq, app};
+ghost use Rattle.records.specs.Table.{blank, placeOf};
 ghost use Rattle.fill.specs.Filling.{foundAt, Seeks, Filled};
 ghost use Rattle.fill.specs.Loading.{carry, Loadable, Carried};
 ghost use Rattle.fill.specs.Handing.{Handable, Handed};
@@ -11,18 +13,23 @@ use job::Field;
 use job::field_at;
 use meaning::RecordNo;
 use meaning::Tag;
-use records::{fetch, store, Record};
-use table::{put_application, put_equation};
+use records::Record;
+use records::fetch;
+use records::store;
+use table::put_application;
+use table::put_equation;
 
-// What the cursor found at a place: a question, which is passed over, or a record as it stands in the record table; and where the next field stands.
+// What the cursor found at a place: a question, which is passed over, or a record as it stands in the record table; and where the
+// next field stands.
 pub struct Found {
     pub question: bool,
     pub place: Record,
     pub next: usize,
 }
 
+// How a = b stands in a place.
 fn equation(a: Tag, b: Tag) -> Record
-    ensures { λ r. ⌜ r ≡ record { kind = 1; a = a; b = b; c = record { 0 = 0 } } ⌝ }
+    ensures { λ r. ⌜ r ≡ placeOf (eq (a .0) (b .0)) ⌝ }
 {
     Record {
         kind: 1,
@@ -32,8 +39,9 @@ fn equation(a: Tag, b: Tag) -> Record
     }
 }
 
+// How f(a, b) = c stands in a place.
 fn application(a: Tag, b: Tag, c: Tag) -> Record
-    ensures { λ r. ⌜ r ≡ record { kind = 2; a = a; b = b; c = c } ⌝ }
+    ensures { λ r. ⌜ r ≡ placeOf (app (a .0) (b .0) (c .0)) ⌝ }
 {
     Record {
         kind: 2,
@@ -43,8 +51,9 @@ fn application(a: Tag, b: Tag, c: Tag) -> Record
     }
 }
 
+// A place with no record.
 fn nothing() -> Record
-    ensures { λ r. ⌜ r ≡ record { kind = 0; a = record { 0 = 0 }; b = record { 0 = 0 }; c = record { 0 = 0 } } ⌝ }
+    ensures { λ r. ⌜ r ≡ blank ⌝ }
 {
     Record {
         kind: 0,

@@ -4,7 +4,7 @@
 --     shown-back       [†κ′] ∗ Shown  ⊢ ⇛ (own (the `&κ mut [T]` ((b, o), γ, ys)) ∗ [κ]_q)
 --     show-on, hide-again      the same as steps of a walk: the lifetime is made, and ended
 -- Assumes `Given`.
-use mathlib.Core.Path.{_≡_, refl}
+use mathlib.Core.Path.{refl}
 use Prim.Native.Nat.{ℕ}
 use mathlib.Core.List.{List, [], _∷_}
 use lib.ListN.{length}

@@ -1,16 +1,10 @@
+-- Each arm stores what `carry` stores, since the test of the kind is the one that `carry` makes.
+-- By the contracts of the two stores.
+-- Assumes nothing.
 use borrow.Author.Needs.{needs}
 use Rattle.fill.proofs.load_one.Statement.{statement}
 use Rattle.fill.proofs.load_one.Tie as tie
-use Rattle.fill.proofs.load_one.Reads as reads
-use Rattle.fill.proofs.load_one.Lts as lts
-use Rattle.table.proofs.put_application.Reads as put-application-reads
-use Rattle.table.proofs.put_equation.Reads as put-equation-reads
-use mathlib.Core.Path.{_≡_, refl, sym, ap, _∙_}
-use mathlib.Core.List.{List, map}
-use Prim.Native.Nat.{ℕ, zero, suc, _+_, _-_, _*_, _≤_, _<_}
-use native.Mathlib.Omega.{arith}
-use lib.ListN.{length, getD, set, take, drop, length-set}
-use mathlib.Core.Logic.{⊎-elim}
+use mathlib.Core.Path.{_∙_}
 use denote.Ref.{now}
 use Rattle.fill.proofs.Loading.{carry-equation, carry-application}
 
