@@ -6,16 +6,16 @@ use native.Mathlib.Omega.{arith}
 use native.Mathlib.Numerals.{add-one}
 use mathlib.Core.Path.{_≡_, refl, sym, _∙_, ap, subst}
 use mathlib.Core.Bool.{Bool, true, false, cond, _&&_}
-use mathlib.Core.List.{List, [], _∷_}
+use mathlib.Core.List.{List, []}
 use borrow.Author.Tests.{ltb-true, leb-true, lt-leb, ne-eqb}
 use lib.Dec.{eqb, ltb, leb}
 use lib.ListN.{length}
 use Rattle.meaning.specs.Following.{Rec, eq, app}
 use Rattle.job.specs.Items.{Item, noted, ask, explain, Reading, refused, accepted, recordsOf, questionsOf, neededRoom}
 use Rattle.job.specs.Reading.{Kind, first, record-eq, record-app, question-ask, question-explain, last, unknown, Field, bad, header, item, end, known, bodyLength, bodyAt, laterKind, kindAt, byteAt, numberAt, orElse, ofKind, fieldAt, counted, numbered, checked, with, behind, spanOf, onward, readFrom, reading}
-use Rattle.job.specs.Answer.{Summary, refusal, acceptance, spanOfField, summary, tally, tallied, told, Going, Turned, on, done}
+use Rattle.job.specs.Answer.{refusal, spanOfField, summary, tally, tallied, told, Going, Turned, on, done}
 use Rattle.job.specs.declared.Seen.{Seen}
-use Rattle.job.specs.declared.Read.{Read}
+use Rattle.job.specs.declared.Answer.{Answer}
 use Rattle.job.specs.declared.Turn.the-variants.{On, Done}
 
 pub plus-none : (n : ℕ) → n + 0 ≡ n
@@ -185,10 +185,10 @@ unfolding readFrom
 step job s g e fuel = rw e
 
 module _ (job : List ℕ) (s : Seen) (h : Going job s) where
-  pub done-bad : (n : ℕ) (r : Read) → Next job s (bad n) → told r ≡ refusal n (s .at) → Turned job s (Done r)
+  pub done-bad : (n : ℕ) (r : Answer) → Next job s (bad n) → told r ≡ refusal n (s .at) → Turned job s (Done r)
   done-bad n r e i = done (λ fuel. step job s (bad n) e fuel ∙ sym i)
 
-  pub done-end : (r : Read) → Next job s end → told r ≡ tally (s .records) (s .questions) (s .room) (behind job (s .size) (s .at + 3)) → Turned job s (Done r)
+  pub done-end : (r : Answer) → Next job s end → told r ≡ tally (s .records) (s .questions) (s .room) (behind job (s .size) (s .at + 3)) → Turned job s (Done r)
   done-end r e i = done (λ fuel. step job s end e fuel ∙ sym i)
 
   pub on-header : (M : ℕ) → Next job s (header M) → Turned job s (On (withHeader s M))
@@ -257,7 +257,7 @@ seeing-on job s t v (on l g f) = go (v .fuel) (v .enough) (v .same)
 pub seeing-closer : (job : List ℕ) (s t : Seen) → Turned job s (On t) → (s .at < t .at) × (t .at ≤ length job)
 seeing-closer job s t (on l g f) = (l, g .within)
 
-pub seeing-done : (job : List ℕ) (s : Seen) (r : Read) → Seeing job s → Turned job s (Done r) → told r ≡ summary (reading job)
+pub seeing-done : (job : List ℕ) (s : Seen) (r : Answer) → Seeing job s → Turned job s (Done r) → told r ≡ summary (reading job)
 seeing-done job s r v (done f) = go (v .fuel) (v .enough) (v .same)
   where
     go : (n : ℕ) → length job < s .at + n → summary (reading job) ≡ tallied n job s → told r ≡ summary (reading job)

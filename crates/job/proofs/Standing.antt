@@ -1,22 +1,22 @@
 -- An accepted job is met by the cursor item for item: reading went from field to field by the same definition.
 -- Induction over the fields that are read.
 -- Assumes nothing.
-use Prim.Native.Nat.{ℕ, zero, suc, _+_, _*_, _-_, _≤_, _<_}
+use Prim.Native.Nat.{ℕ, zero, suc, _+_, _-_, _≤_, _<_}
 use native.Mathlib.Omega.{arith}
-use mathlib.Core.Path.{_≡_, refl, sym, _∙_, ap, subst}
+use mathlib.Core.Path.{_≡_, refl, ap}
 use mathlib.Core.Bool.{Bool, true, false, cond, _&&_}
 use mathlib.Core.List.{List, [], _∷_}
-use borrow.Author.Tests.{ltb-true, leb-true, lt-leb}
+use borrow.Author.Tests.{ltb-true, leb-true}
 use lib.Dec.{eqb, ltb, leb}
 use lib.ListN.{length}
-use Rattle.meaning.specs.Following.{Rec, eq, app}
-use Rattle.job.specs.Items.{Item, noted, ask, explain, Reading, refused, accepted, recordsOf, questionsOf, neededRoom}
-use Rattle.job.specs.Reading.{Field, bad, header, item, end, fieldAt, byteAt, kindAt, firstKind, bodyAt, counted, numbered, checked, with, behind, spanOf, onward, readFrom, reading, first, unknown, known}
+use Rattle.meaning.specs.Following.{eq, app}
+use Rattle.job.specs.Items.{Item, noted, ask, explain, Reading, refused, accepted, recordsOf, questionsOf}
+use Rattle.job.specs.Reading.{Field, bad, header, item, end, fieldAt, byteAt, firstKind, bodyAt, numbered, checked, with, behind, spanOf, onward, readFrom, reading, first, unknown}
 use Rattle.job.specs.Answer.{Summary, refusal, acceptance, told, summary, numberOf}
 use Rattle.job.specs.Standing.{Tagged, Stands, ends, next, Job, Taken, Met}
 use Rattle.job.specs.declared.Fault.{Fault}
-use Rattle.job.specs.declared.Read.the-variants.{Refused, Accepted}
-use Rattle.job.proofs.Reading.{Sound, Passed, checked-passed, field-whole, field-passed, header-first, and-true}
+use Rattle.job.specs.declared.Answer.the-variants.{Refused, Accepted}
+use Rattle.job.proofs.Reading.{Passed, checked-passed, field-whole, field-passed, header-first, and-true}
 
 -- Numbers that were tested are tags below N.
 numbered-tags : (N : ℕ) (i : Item) → numbered N (item i) ≡ true → Tagged N i

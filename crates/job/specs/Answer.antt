@@ -6,8 +6,7 @@ use mathlib.Core.Path.{_≡_}
 use mathlib.Core.List.{List}
 use lib.ListN.{length}
 use Rattle.meaning.specs.Following.{eq, app}
-use Rattle.meaning.specs.declared.Tag.{Tag}
-use Rattle.job.specs.Items.{Item, noted, ask, explain, Reading, refused, accepted, recordsOf, questionsOf, neededRoom}
+use Rattle.job.specs.Items.{noted, ask, explain, Reading, refused, accepted, recordsOf, questionsOf, neededRoom}
 use Rattle.job.specs.Reading.{Kind, first, record-eq, record-app, question-ask, question-explain, last, unknown, Field, bad, header, item, end, spanOf, readFrom}
 use Rattle.job.specs.declared.Fault.{Fault}
 use Rattle.job.specs.declared.Fault.the-variants.{Cut, Misplaced, Misfit, OutOfRange, TooMany, Trailing}
@@ -15,8 +14,8 @@ use Rattle.job.specs.declared.Kind.{Kind as KindCode}
 use Rattle.job.specs.declared.Kind.the-variants as k
 use Rattle.job.specs.declared.Field.{Field as FieldCode}
 use Rattle.job.specs.declared.Field.the-variants.{Bad, Header, Equation, Application, Ask, Explain, End}
-use Rattle.job.specs.declared.Read.{Read}
-use Rattle.job.specs.declared.Read.the-variants.{Refused, Accepted}
+use Rattle.job.specs.declared.Answer.{Answer}
+use Rattle.job.specs.declared.Answer.the-variants.{Refused, Accepted}
 use Rattle.job.specs.declared.Seen.{Seen}
 use Rattle.job.specs.declared.Turn.{Turn}
 use Rattle.job.specs.declared.Turn.the-variants.{On, Done}
@@ -67,7 +66,7 @@ summary (refused n p) = refusal n p
 summary (accepted N is) = acceptance N (length (recordsOf is)) (questionsOf is) (neededRoom N 0 is)
 
 -- The same of what the code answers, by document 01's numbers.
-abbrev pub told : Read → Summary
+abbrev pub told : Answer → Summary
 told (Refused f p) = refusal (numberOf f) p
 told (Accepted N R Q room) = acceptance N R Q room
 
@@ -90,4 +89,4 @@ pub record Going (job : List ℕ) (s : Seen) : Type 0 where
 -- One field more: reading goes on behind it with the same outcome, or that outcome is known.
 pub data Turned (job : List ℕ) (s : Seen) : Turn → Type 0 where
   on : {t : Seen} → s .at < t .at → Going job t → ((fuel : ℕ) → tallied (suc fuel) job s ≡ tallied fuel job t) → Turned job s (On t)
-  done : {r : Read} → ((fuel : ℕ) → tallied (suc fuel) job s ≡ told r) → Turned job s (Done r)
+  done : {r : Answer} → ((fuel : ℕ) → tallied (suc fuel) job s ≡ told r) → Turned job s (Done r)

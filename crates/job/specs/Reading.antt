@@ -6,7 +6,7 @@ use mathlib.Core.Bool.{Bool, true, false, cond, _&&_}
 use mathlib.Core.List.{List, [], _∷_}
 use lib.Dec.{eqb, ltb, leb}
 use lib.ListN.{length, getD}
-use Rattle.meaning.specs.Following.{Rec, eq, app}
+use Rattle.meaning.specs.Following.{eq, app}
 use Rattle.job.specs.Items.{Item, noted, ask, explain, Reading, refused, accepted}
 
 -- All numbers are two bytes, high byte first.

@@ -5,7 +5,7 @@ use mathlib.Core.Path.{_≡_}
 use mathlib.Core.List.{List, [], _∷_}
 use lib.ListN.{length}
 use Rattle.meaning.specs.Following.{eq, app}
-use Rattle.job.specs.Items.{Item, noted, ask, explain, Reading, accepted, recordsOf, questionsOf, neededRoom}
+use Rattle.job.specs.Items.{Item, noted, ask, explain, accepted, recordsOf, questionsOf, neededRoom}
 use Rattle.job.specs.Reading.{fieldAt, header, item, end, spanOf, reading}
 
 -- The tags of an item are below N.

@@ -293,7 +293,7 @@ fn allowed(size: u16, records: u16, questions: u16, field: Field) -> Field
 }
 
 // What reading a job comes to.
-pub enum Read {
+pub enum Answer {
     Refused {
         fault: Fault,
         place: usize,
@@ -318,7 +318,7 @@ pub struct Seen {
 // What one more field leads to.
 pub enum Turn {
     On(Seen),
-    Done(Read),
+    Done(Answer),
 }
 
 // The most numbers that a reason can have after so many records: min(R, 2(N-1)).
@@ -337,21 +337,21 @@ fn most_numbers(size: u16, records: u16) -> usize
 }
 
 // Behind the end field nothing may stand.
-fn ended(job: &[u8], s: Seen) -> Read
+fn ended(job: &[u8], s: Seen) -> Answer
     requires { ⌜ Going (now job) s ⌝ }
     requires { ⌜ s .at + 3 ≤ length (now job) ⌝ }
     ensures { λ r. ⌜ told r ≡ tally (s .records) (s .questions) (s .room) (behind (now (job .entry)) (s .size) (s .at + 3)) ⌝ }
 {
     let next = s.at + 3;
     if job.len() <= next {
-        Read::Accepted {
+        Answer::Accepted {
             size: s.size,
             records: s.records,
             questions: s.questions,
             room: s.room + 7,
         }
     } else {
-        Read::Refused {
+        Answer::Refused {
             fault: Fault::Trailing,
             place: next,
         }
@@ -364,9 +364,9 @@ fn advance(job: &[u8], s: Seen) -> Turn
     ensures { λ r. ⌜ Turned (now (job .entry)) s r ⌝ }
 {
     let at = s.at;
-    let field = allowed(s.size, s.records, s.questions, field_at(job, at));
+    let field = allowed(s.size, s.records, s.questions, read(job, at));
     match field {
-        Field::Bad(fault) => Turn::Done(Read::Refused { fault, place: at }),
+        Field::Bad(fault) => Turn::Done(Answer::Refused { fault, place: at }),
         Field::Header(n) => Turn::On(Seen {
             at: at + 5,
             size: n,
@@ -407,7 +407,7 @@ fn advance(job: &[u8], s: Seen) -> Turn
 }
 
 // Reads a whole job. Document 01's refusals 3 to 8, or what is known of a job that is accepted.
-pub fn read_job(job: &[u8]) -> Read
+pub fn read_job(job: &[u8]) -> Answer
     ensures { λ r. ⌜ told r ≡ summary (reading (now (job .entry))) ⌝ }
 {
     let mut s = Seen {
@@ -427,4 +427,24 @@ pub fn read_job(job: &[u8]) -> Read
             }
         }
     }
+}
+
+// The thin reader: the job's slice and a position in it, over the cursor.
+pub struct Reader<'a> {
+    pub job: &'a [u8],
+    pub at: usize,
+}
+
+// The field at the reader's position.
+pub fn next<'a>(reader: Reader<'a>) -> Field
+    ensures { λ r. ⌜ said r ≡ fieldAt (now (reader .entry .job)) (reader .entry .at) ⌝ }
+{
+    field_at(reader.job, reader.at)
+}
+
+// The field at a place, through a reader: who calls it deals with a plain slice and a number.
+pub fn read(job: &[u8], at: usize) -> Field
+    ensures { λ r. ⌜ said r ≡ fieldAt (now (job .entry)) at ⌝ }
+{
+    next(Reader { job, at })
 }

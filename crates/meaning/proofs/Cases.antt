@@ -6,7 +6,7 @@ use mathlib.Core.List.{List, [], _∷_}
 use lib.Dec.{T}
 use Prim.Native.Nat.{ℕ}
 use Rattle.meaning.specs.Following.{Rec}
-use Rattle.meaning.specs.Cases.{Claim, Says, Case, EachClaim, EachCase, AllHold, NoneHold, stars, twins}
+use Rattle.meaning.specs.Cases.{Claim, Case, EachClaim, EachCase, AllHold, NoneHold, stars, twins}
 use Rattle.meaning.proofs.Decide.{decSays}
 
 abbrev yesb : {A : Type 0} → Dec A → Bool
@@ -25,30 +25,34 @@ said : {A : Type 0} (d : Dec A) → T (yesb d) → A
 said (yes a) t = a
 said (no a) t = absurd t
 
-module _ (Q : ℕ → List Rec → Claim → Type 0) (d : (N : ℕ) (rs : List Rec) (c : Claim) → Dec (Q N rs c)) where
-  abbrev testClaims : ℕ → List Rec → List Claim → Bool
-  testClaims N rs [] = true
-  testClaims N rs (c ∷ cs) = yesb (d N rs c) && testClaims N rs cs
+module _ {Q : Claim → Type 0} (d : (c : Claim) → Dec (Q c)) where
+  abbrev testClaims : List Claim → Bool
+  testClaims [] = true
+  testClaims (c ∷ cs) = yesb (d c) && testClaims cs
+
+  claims-each : (cs : List Claim) → T (testClaims cs) → EachClaim Q cs
+  claims-each [] t = tt
+  claims-each (c ∷ cs) t = (said (d c) (left (yesb (d c)) (testClaims cs) t), claims-each cs (right (yesb (d c)) (testClaims cs) t))
+
+module _ {Q : ℕ → List Rec → ℕ → Claim → Type 0} (d : (N : ℕ) (rs : List Rec) (R : ℕ) (c : Claim) → Dec (Q N rs R c)) where
+  abbrev testCase : Case → Bool
+  testCase c = testClaims (d (c .tags) (c .records) (c .before)) (c .claims)
 
   abbrev testCases : List Case → Bool
   testCases [] = true
-  testCases (c ∷ cs) = testClaims (c .tags) (c .records) (c .claims) && testCases cs
-
-  claims-each : (N : ℕ) (rs : List Rec) (cs : List Claim) → T (testClaims N rs cs) → EachClaim Q N rs cs
-  claims-each N rs [] t = tt
-  claims-each N rs (c ∷ cs) t = (said (d N rs c) (left (yesb (d N rs c)) (testClaims N rs cs) t), claims-each N rs cs (right (yesb (d N rs c)) (testClaims N rs cs) t))
+  testCases (c ∷ cs) = testCase c && testCases cs
 
   cases-each : (cs : List Case) → T (testCases cs) → EachCase Q cs
   cases-each [] t = tt
   cases-each (c ∷ cs) t = (
-    claims-each (c .tags) (c .records) (c .claims) (left (testClaims (c .tags) (c .records) (c .claims)) (testCases cs) t),
-    cases-each cs (right (testClaims (c .tags) (c .records) (c .claims)) (testCases cs) t),
+    claims-each (d (c .tags) (c .records) (c .before)) (c .claims) (left (testCase c) (testCases cs) t),
+    cases-each cs (right (testCase c) (testCases cs) t),
   )
 
 pub stars-hold : AllHold stars
 unfolding decSays
-stars-hold = cases-each Says decSays stars tt
+stars-hold = cases-each decSays stars tt
 
 pub twins-fail : NoneHold twins
 unfolding decSays Dec·not
-twins-fail = cases-each (λ N rs c. Says N rs c → ⊥) (λ N rs c. Dec·not (decSays N rs c)) twins tt
+twins-fail = cases-each (λ N rs R c. Dec·not (decSays N rs R c)) twins tt

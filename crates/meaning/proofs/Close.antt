@@ -1,8 +1,9 @@
--- T1, T2: more records entail more; a labelling that no record contradicts separates what does not follow.
-use Prim.Native.Nat.{ℕ, suc, _≤_, _<_}
+-- A derivation from some records is one from any that hold them, constructor by constructor; and by the same induction it never leaves a label of
+-- a labelling that no record contradicts, so such a labelling is complete. Assumes nothing.
+use Prim.Native.Nat.{ℕ}
 use mathlib.Core.Path.{_≡_, refl, sym, _∙_, ap₂}
-use mathlib.Core.List.{List, [], _∷_, List·Memᴰ}
-use Rattle.meaning.specs.Following.{Rec, eq, app, At, Follows, same, flip, chain, given, congruent, Those}
+use mathlib.Core.List.{List}
+use Rattle.meaning.specs.Following.{Rec, eq, app, Follows, same, flip, chain, given, congruent, Those}
 
 pub more : {S S′ : Rec → Type 0} → ((r : Rec) → S r → S′ r) → {s t : ℕ} → Follows S s t → Follows S′ s t
 more h same = same
@@ -14,7 +15,7 @@ more h (congruent i j p q) = congruent (h _ i) (h _ j) (more h p) (more h q)
 pub more-of : {rs : List Rec} {P Q : ℕ → Type 0} → ((k : ℕ) → P k → Q k) → {s t : ℕ} → Follows (Those rs P) s t → Follows (Those rs Q) s t
 more-of h = more (λ r i. (i .0, h (i .0) (i .1), i .2))
 
--- no record of S contradicts the labelling
+-- No record of S contradicts the labelling: an equation's tags are labelled alike, and so are the results of applications whose arguments are.
 pub record Closed (S : Rec → Type 0) (f : ℕ → ℕ) : Type 0 where
   pub equal : {a b : ℕ} → S (eq a b) → f a ≡ f b
   pub apart : {a b c a′ b′ c′ : ℕ} → S (app a b c) → S (app a′ b′ c′) → f a ≡ f a′ → f b ≡ f b′ → f c ≡ f c′

@@ -1,7 +1,8 @@
--- A count is one number; a test counts.
-use Prim.Native.Nat.{ℕ, zero, suc, _≤_, _<_, _+_}
+-- Each number is counted or skipped by what it is, so two counts of one set agree, a greater set counts no less, and a test counts
+-- what passes it. Assumes nothing.
+use Prim.Native.Nat.{ℕ, zero, suc, _≤_, _<_}
 use native.Mathlib.Omega.{arith}
-use mathlib.Core.Path.{_≡_, refl, ap, sym}
+use mathlib.Core.Path.{_≡_, refl, ap}
 use mathlib.Core.Logic.{_↔_}
 use mathlib.Core.Bool.{Bool, true, false}
 use lib.Dec.{T}

@@ -1,23 +1,24 @@
--- Each notion of the definitions is decided, by the closure on paper.
-use Prim.Native.Nat.{ℕ, zero, suc, _≤_, _<_, _+_, _*_, _-_, max}
+-- The closure on paper labels two tags alike exactly where equality follows, and labels are compared, so following is decided; every other notion of the definitions is
+-- put together from following by tests of numbers and lists. The decisions unfold, so that the check can compute the table of cases. Assumes nothing.
+use Prim.Native.Nat.{ℕ, zero, suc, _≤_, _<_, _*_, _-_, max}
 use native.Mathlib.Omega.{arith}
 use native.Mathlib.Decide.{ℕ-discrete, decLt, decLe}
-use mathlib.Core.Path.{_≡_, refl, sym, _∙_, ap}
-use mathlib.Core.Logic.{_≢_, _↔_, _⊎_, inl, inr, Dec·not, Dec·and, Iff·symm}
+use mathlib.Core.Path.{_≡_, refl}
+use mathlib.Core.Logic.{_≢_, _↔_, inl, inr, Dec·not, Dec·and, Iff·symm}
 use mathlib.Core.Bool.{Bool, true, false, _&&_, not}
 use mathlib.Core.List.{List, [], cons≢nil, _∷_, List·Memᴰ, List·Memᴰ·head, List·Memᴰ·tail, List·Memᴰ·cases-cons, List·Memᴰ·not-nil}
 use lib.Dec.{T, leb, leb→le, le→leb, eqb, eqb→eq, T-not, not-T}
-use borrow.Author.Tests.{eq-eqb, eqb-true, ne-eqb}
+use borrow.Author.Tests.{eq-eqb}
 use lib.ListN.{length, getD}
-use Rattle.meaning.specs.Following.{Rec, eq, app, Follows, Those, Only, UpTo, Without, Leader}
+use Rattle.meaning.specs.Following.{Rec, eq, app, Follows, Those, UpTo, Without, Leader}
 use Rattle.meaning.specs.Reasons.{Above, lastOf, FirstAt, Reason}
 use Rattle.meaning.specs.Labels.{Labels}
-use Rattle.meaning.specs.Totals.{Count, none, one, skip, Classes, Idle, Idles}
+use Rattle.meaning.specs.Totals.{Count, none, one, skip, Classes, Idle}
 use Rattle.meaning.specs.Cases.{Claim, follow, apart, leader, reason, unsound, classes, idle, Says}
-use Rattle.meaning.proofs.Close.{more-of, complete}
+use Rattle.meaning.proofs.Close.{more-of}
 use Rattle.meaning.proofs.Count.{count-one}
 use Rattle.meaning.proofs.Leaders.{leader-of}
-use Rattle.meaning.proofs.Reference.{Small, State, Done, done, done-same, any-below}
+use Rattle.meaning.proofs.Reference.{Small, Done, done, done-same, any-below}
 use Rattle.meaning.proofs.Short.{among, among-in, in-among}
 
 unfoldable pub decIff : {A B : Type 0} → A ↔ B → Dec A → Dec B
@@ -28,7 +29,7 @@ unfoldable pub decEmpty : (L : List ℕ) → Dec (L ≡ [])
 decEmpty [] = yes refl
 decEmpty (k ∷ L) = no (λ e. cons≢nil e)
 
--- a number above every tag of the records
+-- A number above every tag of the records: the closure on paper needs one, whatever the job's N.
 abbrev pub boundOf : Rec → ℕ
 boundOf (eq a b) = suc (max a b)
 boundOf (app a b c) = suc (max a (max b c))
@@ -46,12 +47,12 @@ small-all [] N l i h = absurd (omega arith)
 small-all (r ∷ rs) N l zero h = small-of r N (omega arith)
 small-all (r ∷ rs) N l (suc i) h = small-all rs N (omega arith) i (omega arith)
 
--- the closure of the chosen records
+-- The closure of the chosen records, ..
 unfoldable pub close : (rs : List Rec) (p : ℕ → Bool) → Done (bound rs) rs (small-all rs (bound rs) (omega arith)) p
 unfolding done
 close rs p = done (bound rs) rs (small-all rs (bound rs) (omega arith)) p
 
--- the labels of that closure
+-- .. and its labels.
 unfoldable pub label : (rs : List Rec) (p : ℕ → Bool) → ℕ → ℕ
 unfolding close
 label rs p = close rs p .state .f
@@ -85,7 +86,7 @@ module _ (rs : List Rec) (p : ℕ → Bool) (P : ℕ → Type 0) (e : (k : ℕ) 
       go (yes q) = yes (rw q at (label-leader s))
       go (no q) = no (λ h. q (leader-one (label-leader s) h))
 
--- a count of what is decided
+-- What is decided can be counted.
 unfoldable pub countIt : (P : ℕ → Type 0) → ((x : ℕ) → Dec (P x)) → (N : ℕ) → (n : ℕ) × Count P N n
 countIt P d zero = (0, none)
 countIt P d (suc N) = go (d N) (countIt P d N)
@@ -102,7 +103,7 @@ decCount P d N n = go (ℕ-discrete (countIt P d N .0) n)
     go (yes q) = yes (rw q at (countIt P d N .1))
     go (no q) = no (λ c. q (count-one (countIt P d N .1) c))
 
--- the three choices of records, as tests
+-- The three sets of records that the definitions name, as tests.
 pub upTo-test : (k n : ℕ) → (n ≤ k) ↔ T (leb n k)
 upTo-test k n = (le→leb n k, leb→le n k)
 
@@ -126,7 +127,7 @@ without-test L m n = (
   λ t. (among-in L n (and-split (among L n) (not (eqb n m)) t .0), λ q. T-not (eqb n m) (and-split (among L n) (not (eqb n m)) t .1) (rw (eq-eqb n m q) tt)),
 )
 
--- decisions put together
+-- Decisions put together.
 unfoldable pub decImp : {A B : Type 0} → Dec A → Dec B → Dec (A → B)
 decImp a (yes b) = yes (λ x. b)
 decImp (yes a) (no b) = no (λ f. b (f a))
@@ -188,12 +189,12 @@ decIdle N rs k = go (countIt (λ x. Leader (UpTo rs k) x x) (λ x. decLeader rs 
     go : (n : ℕ) × Classes N (UpTo rs k) n → Dec (Idle N rs k)
     go c = decIff (λ d. (c .0, c .1, d), λ i. rw (count-one (c .1) (i .1)) (i .2)) (decClasses N rs (suc k) (c .0))
 
-unfoldable pub decSays : (N : ℕ) (rs : List Rec) (c : Claim) → Dec (Says N rs c)
+unfoldable pub decSays : (N : ℕ) (rs : List Rec) (R : ℕ) (c : Claim) → Dec (Says N rs R c)
 unfolding decUpTo Dec·not decLeader decReason decClasses decCount decIdle
-decSays N rs (follow s t) = decUpTo rs (length rs) s t
-decSays N rs (apart s t) = Dec·not (decUpTo rs (length rs) s t)
-decSays N rs (leader s l) = decLeader rs (λ n. leb n (length rs)) (λ n. n ≤ length rs) (upTo-test (length rs)) s l
-decSays N rs (reason s t L) = decReason N rs (length rs) s t L
-decSays N rs (unsound s t L) = Dec·not (decReason N rs (length rs) s t L)
-decSays N rs (classes n) = decClasses N rs (length rs) n
-decSays N rs (idle n) = decCount (Idle N rs) (decIdle N rs) (length rs) n
+decSays N rs R (follow s t) = decUpTo rs R s t
+decSays N rs R (apart s t) = Dec·not (decUpTo rs R s t)
+decSays N rs R (leader s l) = decLeader rs (λ n. leb n R) (λ n. n ≤ R) (upTo-test R) s l
+decSays N rs R (reason s t L) = decReason N rs R s t L
+decSays N rs R (unsound s t L) = Dec·not (decReason N rs R s t L)
+decSays N rs R (classes n) = decClasses N rs R n
+decSays N rs R (idle n) = decCount (Idle N rs) (decIdle N rs) (length rs) n

@@ -1,21 +1,20 @@
--- What a closed state of the closure says of following; putting a reason together; a front of the records.
-use Prim.Native.Nat.{ℕ, zero, suc, _≤_, _<_, _+_, _*_, _-_}
+-- A closure that has nothing left to do is sound by its log and complete by its labels, so its labels decide following, leaders and the number of classes. Below it
+-- stand what follows for a reason, for a front of the records, for the first k and for idle records. Assumes nothing.
+use Prim.Native.Nat.{ℕ, suc, _≤_, _<_}
 use native.Mathlib.Omega.{arith}
-use native.Mathlib.Decide.{ℕ-discrete, decLt, decLe}
-use mathlib.Core.Path.{_≡_, refl, sym, _∙_, ap}
-use mathlib.Core.Logic.{_≢_, _↔_, _⊎_, inl, inr}
-use mathlib.Core.Bool.{Bool, true, false}
-use mathlib.Core.List.{List, [], _∷_, _++_, List·Memᴰ, List·Memᴰ·head, List·Memᴰ·tail, List·Memᴰ·cases-cons, List·Memᴰ·not-nil}
+use mathlib.Core.Path.{_≡_, refl, sym, _∙_}
+use mathlib.Core.Logic.{_≢_, _↔_}
+use mathlib.Core.List.{List, [], _++_, List·Memᴰ, List·Memᴰ·not-nil}
 use lib.Dec.{T, eqb, eqb→eq}
 use borrow.Author.Tests.{eq-eqb}
 use lib.ListN.{length, getD, length-append, List·getD-append}
-use Rattle.meaning.specs.Following.{Rec, eq, app, At, Follows, same, Those, Only, UpTo, Without, Leader}
+use Rattle.meaning.specs.Following.{Rec, eq, At, Follows, same, Those, Only, UpTo, Without, Leader}
 use Rattle.meaning.specs.Reasons.{Above, lastOf, FirstAt, Reason}
-use Rattle.meaning.specs.Joins.{Join, Joined, Justified, used, all, count}
+use Rattle.meaning.specs.Joins.{Join, Justified, used, all, count}
 use Rattle.meaning.specs.Labels.{Labels, classes, Agree}
 use Rattle.meaning.specs.Trim.{Trimmed}
 use Rattle.meaning.specs.Totals.{Classes, Idle, Idles}
-use Rattle.meaning.proofs.Close.{more-of, Closed, complete}
+use Rattle.meaning.proofs.Close.{more, more-of, Closed, complete}
 use Rattle.meaning.proofs.Leaders.{leader-of, classes-of}
 use Rattle.meaning.proofs.Log.{linked-follows}
 use Rattle.meaning.proofs.Count.{count-of, count-one}
@@ -23,7 +22,8 @@ use Rattle.meaning.proofs.Trim.{last-is-first}
 use Rattle.meaning.proofs.Reference.{Small}
 use Rattle.meaning.proofs.Short.{unspared-short}
 
--- the state of a closure that has nothing left to do
+-- The state of a closure of the records in P that has nothing left to do: the labels f are those of its n joins e, each join rests on older ones and on records
+-- in P, and no record in P contradicts the labels.
 pub record Settled (rs : List Rec) (P : ℕ → Type 0) (e : ℕ → Join) (n : ℕ) (f : ℕ → ℕ) : Type 0 where
   pub labels : Labels f
   pub agree : Agree e n f
@@ -41,26 +41,40 @@ module _ {rs : List Rec} {P : ℕ → Type 0} {e : ℕ → Join} {n : ℕ} {f : 
   pub settled-classes : (N : ℕ) → Classes N (Those rs P) (classes f N)
   settled-classes = classes-of (d .labels) settled-same
 
--- A reason from a rising list within 1..k that entails and of which none can be spared, with k the first that entails: the other points follow.
+-- A reason from a set of numbers within 1..k that entails and of which none can be spared, with k the first that entails, listed in order: the other points follow.
+pub reason-set : (N : ℕ) (rs : List Rec) → ((i : ℕ) → i < length rs → Small N (getD rs i (eq 0 0))) → (R s t k : ℕ) (X : ℕ → Type 0) (L : List ℕ)
+    → s ≢ t → k ≤ R → FirstAt rs s t k → ((n : ℕ) → X n → n ≤ k) → Follows (Those rs X) s t → ((m : ℕ) → X m → Follows (Those rs (λ n. X n × (n ≢ m))) s t → ⊥)
+    → Above 0 L → ((n : ℕ) → List·Memᴰ n L ↔ X n) → Reason N rs R s t L
+reason-set N rs small R s t k X L d l f u x p a e = record {
+  rising = a;
+  stand = λ n i. omega (arith, within n i);
+  entails = again;
+  empty = λ q. absurd (d q);
+  last = λ _. rw (last-is-first rs s t k L f a within again) f;
+  unspared = spare;
+  short = unspared-short N rs small s t L a again spare;
+}
+  where
+    within : (n : ℕ) → List·Memᴰ n L → n ≤ k
+    within n i = u n (e n .0 i)
+
+    again : Follows (Only rs L) s t
+    again = more-of (λ n. e n .1) x
+
+    spare : (m : ℕ) → List·Memᴰ m L → Follows (Without rs L m) s t → ⊥
+    spare m i g = p m (e m .0 i) (more-of (λ n j. (e n .0 (j .0), j .1)) g)
+
+-- The same from a list that rises already, ..
 pub reason-list : (N : ℕ) (rs : List Rec) → ((i : ℕ) → i < length rs → Small N (getD rs i (eq 0 0))) → (R s t k : ℕ) (L : List ℕ)
     → s ≢ t → k ≤ R → FirstAt rs s t k → Above 0 L → ((n : ℕ) → List·Memᴰ n L → n ≤ k) → Follows (Only rs L) s t
     → ((m : ℕ) → List·Memᴰ m L → Follows (Without rs L m) s t → ⊥) → Reason N rs R s t L
-reason-list N rs small R s t k L d l f a u h spare = record {
-  rising = a;
-  stand = λ n i. omega (arith, u n i);
-  entails = h;
-  empty = λ p. absurd (d p);
-  last = λ _. rw (last-is-first rs s t k L f a u h) f;
-  unspared = spare;
-  short = unspared-short N rs small s t L a h spare;
-}
+reason-list N rs small R s t k L d l f a u h spare = reason-set N rs small R s t k (λ n. List·Memᴰ n L) L d l f u h spare a (λ n. (λ i. i, λ i. i))
 
--- The same from a trimmed set of numbers, listed in order.
+-- .. and from a set that was gone through in the order of its numbers.
 pub reason-of : (N : ℕ) (rs : List Rec) → ((i : ℕ) → i < length rs → Small N (getD rs i (eq 0 0))) → (R s t k : ℕ) (X : ℕ → Type 0) (L : List ℕ)
     → s ≢ t → k ≤ R → FirstAt rs s t k → Trimmed rs s t X (suc k) → ((n : ℕ) → X n → n ≤ k) → Above 0 L → ((n : ℕ) → List·Memᴰ n L ↔ X n)
     → Reason N rs R s t L
-reason-of N rs small R s t k X L d l f h u a e = reason-list N rs small R s t k L d l f a (λ n i. u n (e n .0 i)) (more-of (λ n. e n .1) (h .entails))
-    (λ m i g. h .unspared m (omega (arith, u m (e m .0 i))) (e m .0 i) (more-of (λ n j. (e n .0 (j .0), j .1)) g))
+reason-of N rs small R s t k X L d l f h u a e = reason-set N rs small R s t k X L d l f u (h .entails) (λ m x. h .unspared m (omega (arith, u m x)) x) a e
 
 -- A tag is equal to itself, and no record is needed for it.
 pub reason-same : (N : ℕ) (rs : List Rec) (R s : ℕ) → Reason N rs R s s []
@@ -82,6 +96,12 @@ pub front-at : (rs qs : List Rec) {k : ℕ} {r : Rec} → k ≤ length rs → At
 front-at rs qs l h =
     let i : h .place < length rs = omega (arith, h .number) in
     record { place = h .place; number = h .number; stands = i; is = sym (List·getD-append rs qs (eq 0 0) (h .place) i) ∙ h .is }
+
+pub follows-front : (rs qs : List Rec) {k s t : ℕ} → k ≤ length rs → Follows (UpTo (rs ++ qs) k) s t ↔ Follows (UpTo rs k) s t
+follows-front rs qs {k} l = (
+  more (λ r i. let b : i .0 ≤ k = i .1 in (i .0, b, front-at rs qs (omega arith) (i .2))),
+  more (λ r i. (i .0, i .1, at-front rs qs (i .2))),
+)
 
 -- The first k is found by two questions, ..
 pub first-at : {rs : List Rec} {s t k : ℕ} → Follows (UpTo rs (suc k)) s t → (Follows (UpTo rs k) s t → ⊥) → FirstAt rs s t (suc k)

@@ -1,14 +1,11 @@
--- One table of links knows the classes after each join.
-use Prim.Native.Nat.{ℕ, zero, suc, _≤_, _<_, _+_}
+-- Links lead down, so every chain ends; ages rise along a chain, so the links older than an age are a front of it, and a new link, younger than all, changes no
+-- earlier root: one table of links knows the classes after each join. Assumes nothing.
+use Prim.Native.Nat.{ℕ, zero, suc, _≤_, _<_}
 use native.Mathlib.Omega.{arith}
 use native.Mathlib.Decide.{ℕ-discrete, decLt, decLe}
 use mathlib.Core.Path.{_≡_, refl, sym, _∙_, ap}
 use mathlib.Core.Logic.{_≢_, _⊎_, inl, inr}
-use mathlib.Core.Bool.{Bool, true, false, cond}
-use mathlib.Core.List.{List, [], _∷_}
-use lib.Dec.{eqb, ltb, leb}
-use borrow.Author.Tests.{eq-eqb, ne-eqb, lt-ltb, le-ltb, le-leb, lt-leb}
-use lib.ListN.{length}
+use borrow.Author.Tests.{lt-ltb, le-ltb}
 use Rattle.meaning.specs.Joins.{Join, Joined, below, over, back, put}
 use Rattle.meaning.specs.Labels.{Labels, into, Agree}
 use Rattle.meaning.specs.Forest.{rootIn, root, Links, History}
@@ -43,7 +40,7 @@ module _ (p g : ℕ → ℕ) (top len : ℕ) (K : Links p g top len) (a : ℕ) (
   root-up zero h = absurd (omega (arith, K .down 0 (omega arith)))
   root-up (suc x) h = rw (lt-ltb (g (suc x)) a h) (root-enough x (p (suc x)) (p (suc x)) (omega (arith, K .down (suc x) (omega arith))) (omega arith))
 
-  -- to show Q of x: where no link is older, and up one link
+  -- To show Q of every tag, show it where no link is older than a, and carry it down one link.
   pub root-ind : (Q : ℕ → Type 0) → ((x : ℕ) → a ≤ g x → Q x) → ((x : ℕ) → g x < a → Q (p x) → Q x) → (x : ℕ) → Q x
   root-ind Q f h x = go x x (omega arith)
     where
@@ -55,14 +52,14 @@ module _ (p g : ℕ → ℕ) (top len : ℕ) (K : Links p g top len) (a : ℕ) (
       go zero x l = f x (bottom x l)
       go (suc n) x l = one x (λ l′. go n (p x) (omega (arith, K .down x (omega arith)))) (decLt (g x) a)
 
-  -- leaders are labels
+  -- Roots are labels.
   pub root-labels : Labels (root p g a)
   root-labels = record {
     low = root-ind (λ x. root p g a x ≤ x) (λ x h. rw (root-stop x h) (omega arith)) (λ x h q. rw (root-up x h) (omega (arith, K .down x (omega arith))));
     flat = root-ind (λ x. root p g a (root p g a x) ≡ root p g a x) (λ x h. rw (root-stop x h, root-stop x h)) (λ x h q. rw (root-up x h) q);
   }
 
--- a new link: earlier classes stay, and the last ones are joined
+-- A new link: earlier classes stay, and the last ones are joined.
 module _ (p g : ℕ → ℕ) (top len : ℕ) (K : Links p g top len) (high : suc len ≤ top) (lo hi : ℕ) (less : lo < hi) (free : top ≤ g lo) (free′ : top ≤ g hi) where
   link-hit : (y : ℕ) (f : ℕ → ℕ) → put hi y f hi ≡ y
   link-hit y f = put-hit hi y f
@@ -168,7 +165,7 @@ history-link e n p g top H room j lo hi less free free′ h = record {
         (relabel-agree (put n j e) n (root p g n) (agree-same old (λ x. refl) (H .then n (omega arith))) lo hi
         (root-labels p g top n (H .links) n (omega arith) (omega arith)) (own lo free) (own hi free′) less (rw (put-hit n j e) h)))
 
--- the newest join that s and t need is crossed, one way or the other
+-- Where join b is the first to bring s and t together, it is crossed, one way or the other.
 pub newest : (e : ℕ → Join) (n : ℕ) (p g : ℕ → ℕ) (top : ℕ) → History e n p g top → (b : ℕ) → b < n → (s t : ℕ) → root p g (suc b) s ≡ root p g (suc b) t → root p g b s ≢ root p g b t
     → ((root p g b s ≡ root p g b (e b .u)) × (root p g b (e b .v) ≡ root p g b t)) ⊎ ((root p g b s ≡ root p g b (e b .v)) × (root p g b (e b .u) ≡ root p g b t))
 newest e n p g top H b l s t q d = go (H .then (suc b) (omega arith) .joins s t q)
@@ -188,7 +185,7 @@ module _ (p g : ℕ → ℕ) (top len : ℕ) (K : Links p g top len) (high : len
       (λ s h. rw (root-stop p g top len K c (omega arith) high s h))
       (λ s h q. rw (root-up p g top len K c (omega arith) high s h, root-up p g top len K a k high s (omega arith)) q)
 
-  -- x is the leader of s up to the age of its link, and then p x
+  -- The leader of s is x up to the age of the link of x, and then p x.
   pub climb-stay : (c a s x : ℕ) → root p g c s ≡ x → c ≤ a → a ≤ len → a ≤ g x → root p g a s ≡ x
   climb-stay c a s x e l k h = sym (root-root c a l k s) ∙ ap (root p g a) e ∙ root-stop p g top len K a k high x h
 

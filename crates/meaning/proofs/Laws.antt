@@ -3,24 +3,23 @@
 use Prim.Native.Nat.{ℕ, zero, suc, _≤_, _<_, _*_, _-_}
 use native.Mathlib.Omega.{arith}
 use native.Mathlib.Decide.{ℕ-discrete}
-use mathlib.Core.Path.{_≡_, refl}
-use mathlib.Core.Logic.{_≢_, _↔_, _⊎_, inl, inr}
+use mathlib.Core.Path.{_≡_}
+use mathlib.Core.Logic.{_≢_, _↔_}
 use mathlib.Core.Bool.{Bool, true, false}
-use mathlib.Core.List.{List, [], _∷_, _++_, List·Memᴰ, List·Memᴰ·not-nil}
+use mathlib.Core.List.{List, []}
 use lib.Dec.{T}
 use lib.ListN.{length, getD}
-use Rattle.meaning.specs.Following.{Rec, eq, app, Follows, same, flip, chain, given, congruent, Those, UpTo, Only, Without, Leader}
+use Rattle.meaning.specs.Following.{Rec, eq, app, Follows, same, flip, chain, given, congruent, Those, UpTo, Leader}
 use Rattle.meaning.specs.Joins.{all, put}
 use Rattle.meaning.specs.Reasons.{FirstAt, Reason}
 use Rattle.meaning.specs.Totals.{Classes, Idles}
 use Rattle.meaning.specs.Trim.{Trimmed}
 use Rattle.meaning.proofs.Close.{more, more-of}
 use Rattle.meaning.proofs.Count.{count-one, count-most}
-use Rattle.meaning.proofs.Leaders.{classes-of, classes-more}
 use Rattle.meaning.proofs.Reference.{Small}
 use Rattle.meaning.proofs.Rising.{numbers, numbers-rise, numbers-in}
 use Rattle.meaning.proofs.Short.{among, among-in, in-among, unspared-tight}
-use Rattle.meaning.proofs.Decide.{decFollows, decUpTo, decReason, countIt, decLeader, upTo-test}
+use Rattle.meaning.proofs.Decide.{decFollows, decUpTo, decReason}
 use Rattle.meaning.proofs.Trim.{trim-start, trim-drop, trim-keep, trim-same, drop-bit}
 use Rattle.meaning.proofs.Exact.{first-at, reason-of, reason-same}
 
@@ -65,7 +64,7 @@ module _ (N : ℕ) {S : Rec → Type 0} (small : (r : Rec) → S r → Small N r
 pub small-those : (N : ℕ) {rs : List Rec} {P : ℕ → Type 0} → ((i : ℕ) → i < length rs → Small N (getD rs i (eq 0 0))) → (r : Rec) → Those rs P r → Small N r
 small-those N small r i = rw (i .2 .is) at (small (i .2 .place) (i .2 .stands))
 
--- A leader is no greater than its tag, and so is a tag of the job.
+-- A leader is no greater than its tag, so it is a tag of the job where that is one.
 pub leader-low : {S : Rec → Type 0} {s l : ℕ} → Leader S s l → l ≤ s
 leader-low {s = s} h = h .least s same
 

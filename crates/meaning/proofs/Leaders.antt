@@ -25,7 +25,7 @@ module _ {S : Rec → Type 0} {f : ℕ → ℕ} (L : Labels f) (exact : (s t : �
       led : (x : ℕ) → T (eqb (f x) x) → Leader S x x
       led x t = rw (eqb→eq (f x) x t) at (leader-of x)
 
--- A class has one leader, and two tags are equal exactly if their leaders are one.
+-- Two tags are equal exactly if their leaders are one.
 pub leader-same : {S : Rec → Type 0} {s t l m : ℕ} → Leader S s l → Leader S t m → Follows S s t ↔ (l ≡ m)
 leader-same {l = l} {m = m} h k = (
   λ f. omega (arith, h .least m (chain f (k .member)), k .least l (chain (flip f) (h .member))),

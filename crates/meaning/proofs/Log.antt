@@ -1,15 +1,16 @@
--- T3, T4: what the marked joins connect follows from their records alone.
+-- A join rests on older joins only, so by induction on its age what the marked joins connect follows from their records alone. Each join brings at most two
+-- record numbers, so those of the marked joins are at most twice as many. Assumes nothing.
 use Prim.Native.Nat.{ℕ, zero, suc, _≤_, _<_, _+_, _*_}
 use native.Mathlib.Omega.{arith}
 use native.Mathlib.Decide.{decLe}
-use mathlib.Core.Path.{_≡_, refl, sym, _∙_, subst}
-use mathlib.Core.Logic.{_≢_, _⊎_, inl, inr}
+use mathlib.Core.Path.{_≡_, refl, sym, _∙_}
+use mathlib.Core.Logic.{_≢_}
 use mathlib.Core.Bool.{Bool, true, false}
-use mathlib.Core.List.{List, [], _∷_, _++_, List·Memᴰ, List·Memᴰ·head, List·Memᴰ·tail, Memᴰ·append-left, Memᴰ·append-right}
+use mathlib.Core.List.{List, List·Memᴰ, List·Memᴰ·head, List·Memᴰ·tail, Memᴰ·append-left, Memᴰ·append-right}
 use lib.Dec.{T}
 use borrow.Author.Tests.{eq-eqb, ne-eqb}
 use lib.ListN.{length, length-append}
-use Rattle.meaning.specs.Following.{Rec, eq, app, At, Follows, same, flip, chain, given, congruent, Those, Only}
+use Rattle.meaning.specs.Following.{Rec, Follows, same, flip, chain, given, congruent, Those, Only}
 use Rattle.meaning.specs.Joins.{Why, by, cong, Join, Linked, here, below, over, back, Grounds, equation, applications, Supported, Joined, Justified, all, numbersOf, keep, used, tick, count, put}
 
 pub put-hit : {A : Type 0} (i : ℕ) (a : A) (f : ℕ → A) → put i a f i ≡ a
@@ -41,7 +42,7 @@ module _ {e : ℕ → Join} {m : ℕ → Bool} where
   linked-trans (back o p q) (over o′ r w) = below (linked-trans p w)
   linked-trans (back o p q) (back o′ r w) = back o p w
 
-  -- what older joins link stays linked
+  -- What older joins link stays linked.
   pub linked-up : {n s t : ℕ} (k : ℕ) → n ≤ k → Linked e m n s t → Linked e m k s t
   linked-up {n} zero l p = let q : n ≡ 0 = omega arith in rw q at p
   linked-up {n} {s} {t} (suc k) l p = go (λ l′. linked-up k l′ p) (decLe n k)
@@ -50,14 +51,14 @@ module _ {e : ℕ → Join} {m : ℕ → Bool} where
       go f (yes h) = below (f h)
       go f (no h) = let q : n ≡ suc k = omega arith in rw q at p
 
--- more marks link more
+-- More marks link more.
 pub linked-more : {e : ℕ → Join} {m m′ : ℕ → Bool} → ((a : ℕ) → T (m a) → T (m′ a)) → {n s t : ℕ} → Linked e m n s t → Linked e m′ n s t
 linked-more h (here p) = here p
 linked-more h (below p) = below (linked-more h p)
 linked-more h (over o p q) = over (h _ o) (linked-more h p) (linked-more h q)
 linked-more h (back o p q) = back (h _ o) (linked-more h p) (linked-more h q)
 
--- only the first n joins matter
+-- Only the first n joins matter.
 pub linked-same : {e e′ : ℕ → Join} {m : ℕ → Bool} {n : ℕ} → ((a : ℕ) → a < n → e a ≡ e′ a) → {s t : ℕ} → Linked e m n s t → Linked e′ m n s t
 linked-same h (here p) = here p
 linked-same h (below p) = below (linked-same (λ a l. h a (omega arith)) p)
@@ -97,7 +98,7 @@ module _ (rs : List Rec) (e : ℕ → Join) (m : ℕ → Bool) (P : ℕ → Type
       go f (over o q r) = chain (f _ _ q) (chain (step n f g h o) (f _ _ r))
       go f (back o q r) = chain (f _ _ q) (chain (flip (step n f g h o)) (f _ _ r))
 
--- the same for a whole log
+-- The same for a whole log.
 pub joined-follows : (rs : List Rec) (e : ℕ → Join) (n : ℕ) → Justified rs e n → {s t : ℕ} → Joined e n s t → Follows (Only rs (used e all n)) s t
 joined-follows rs e n g = linked-follows rs e all _ n g (λ k i. i) _ _
 

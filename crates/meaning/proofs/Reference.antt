@@ -1,24 +1,22 @@
--- Closing a set of records, on paper: every finite set has a log that joins exactly what follows from it.
--- So following is decided, and a list of which none can be spared is short (T8).
-use Prim.Native.Nat.{ℕ, zero, suc, _≤_, _<_, _+_, _*_, _-_}
+-- Closing a set of records, on paper: two records that the labels contradict ask for a join, each join lowers the number of classes, and when no two clash the labels are
+-- closed. So every finite set of records has a log that joins exactly what follows from it. Assumes nothing.
+use Prim.Native.Nat.{ℕ, zero, suc, _≤_, _<_, _+_}
 use native.Mathlib.Omega.{arith}
 use native.Mathlib.Decide.{ℕ-discrete, decLt}
-use mathlib.Core.Path.{_≡_, refl, sym, _∙_, ap}
-use mathlib.Core.Logic.{_≢_, _↔_, _⊎_, inl, inr, Dec·not, Dec·of-iff, Iff·symm}
+use mathlib.Core.Path.{_≡_, refl, sym}
+use mathlib.Core.Logic.{_≢_, _↔_, inl, inr, Dec·not}
 use mathlib.Core.Bool.{Bool, true, false}
-use mathlib.Core.List.{List, [], _∷_, List·Memᴰ, List·Memᴰ·head, List·Memᴰ·tail, List·Memᴰ·cases-cons, List·Memᴰ·append-cases, List·Memᴰ·eq-of-singleton, List·Memᴰ·not-nil}
+use mathlib.Core.List.{List, List·Memᴰ, List·Memᴰ·cases-cons, List·Memᴰ·append-cases, List·Memᴰ·eq-of-singleton, List·Memᴰ·not-nil}
 use lib.Dec.{T}
 use lib.ListN.{length, getD}
-use Rattle.meaning.specs.Following.{Rec, eq, app, At, Follows, Those, Only, Without}
-use Rattle.meaning.specs.Reasons.{Above}
-use Rattle.meaning.specs.Joins.{Why, by, cong, Join, Joined, Grounds, equation, applications, Justified, used, all, numbersOf, put}
+use Rattle.meaning.specs.Following.{Rec, eq, app, At, Follows, Those}
+use Rattle.meaning.specs.Joins.{by, cong, Join, Joined, Grounds, equation, applications, Justified, used, all, numbersOf, put}
 use Rattle.meaning.specs.Labels.{Labels, into, classes, Agree}
-use Rattle.meaning.proofs.Close.{more-of, Closed, complete}
+use Rattle.meaning.proofs.Close.{Closed, complete}
 use Rattle.meaning.proofs.Log.{linked-follows, linked-same, put-hit, put-miss, grounds-more, used-same}
 use Rattle.meaning.proofs.Relabel.{relabel-labels, relabel-agree, relabel-classes, agree-same, Ends, start-agree, start-classes}
-use Rattle.meaning.proofs.Rising.{rising-short}
 
--- a search below n
+-- A search below n.
 unfoldable pub any-below : (Q : ℕ → Type 0) → ((i : ℕ) → Dec (Q i)) → (n : ℕ) → Dec ((i : ℕ) × (i < n) × Q i)
 any-below Q d zero = no (λ h. omega (arith, h .1))
 any-below Q d (suc n) = go (d n) (any-below Q d n)
@@ -36,7 +34,7 @@ pub stable : {A : Type 0} → (¬ A → ⊥) → Dec A → A
 stable h (yes a) = a
 stable h (no a) = absurd (h a)
 
--- the labelling f contradicts the first record, or the two together
+-- The labelling f contradicts the first record, or the two together.
 abbrev pub Clash : (ℕ → ℕ) → Rec → Rec → Type 0
 Clash f (eq a b) r = f a ≢ f b
 Clash f (app a b c) (eq a′ b′) = ⊥
@@ -54,13 +52,13 @@ dec-clash f (app a b c) (app a′ b′ c′) = go (ℕ-discrete (f a) (f a′)) 
     go (yes p) (yes q) (yes r) = no (λ h. h .2 r)
     go (yes p) (yes q) (no r) = yes (p, q, r)
 
--- the join that two clashing records ask for
+-- The join that two clashing records ask for.
 abbrev pub joinOf : ℕ → ℕ → Rec → Rec → Join
 joinOf k k′ (eq a b) r = record { u = a; v = b; why = by k }
 joinOf k k′ (app a b c) (eq a′ b′) = record { u = c; v = c; why = by k }
 joinOf k k′ (app a b c) (app a′ b′ c′) = record { u = c; v = c′; why = cong k k′ }
 
--- every tag of a record is below N
+-- Every tag of a record is below N.
 abbrev pub Small : ℕ → Rec → Type 0
 Small N (eq a b) = (a < N) × (b < N)
 Small N (app a b c) = (a < N) × (b < N) × (c < N)
@@ -126,7 +124,7 @@ module _ (N : ℕ) (rs : List Rec) (small : (i : ℕ) → i < length rs → Smal
       sound a l (yes q) = rw (q, new) (grounds-more (λ x y. linked-same old) g)
       sound a l (no q) = rw (← (old a (omega arith))) (grounds-more (λ x y. linked-same (λ b k. old b (omega arith))) (s .sound a (omega arith) tt))
 
-  -- a clash is mended by one more join
+  -- A clash is mended by one more join.
   mend : (s : State) (i i′ : ℕ) → i < length rs → i′ < length rs → Two (s .f) i i′ → (s′ : State) × (s′ .n ≡ suc (s .n))
   unfolding add decLt
   mend s i i′ l l′ c = go (decLt (s .f (j .u)) (s .f (j .v)))
@@ -218,9 +216,6 @@ module _ (N : ℕ) (rs : List Rec) (small : (i : ℕ) → i < length rs → Smal
         within = λ k i. absurd (List·Memᴰ·not-nil i);
       }
 
-  -- following is decided
+  -- Its labels are equal exactly where equality follows.
   pub done-same : (d : Done) (s t : ℕ) → Follows (Those rs (λ k. T (p k))) s t ↔ (d .state .f s ≡ d .state .f t)
   done-same d s t = (λ h. complete (d .closed) h, λ e. linked-follows rs (d .state .e) all (λ k. T (p k)) (d .state .n) (d .state .sound) (d .state .within) s t (d .state .agree .joins s t e))
-
-  pub decFollows : (s t : ℕ) → Dec (Follows (Those rs (λ k. T (p k))) s t)
-  decFollows s t = Dec·of-iff (Iff·symm (done-same done s t)) (ℕ-discrete (done .state .f s) (done .state .f t))

@@ -1,15 +1,16 @@
--- T7: joining two classes in the labelling.
-use Prim.Native.Nat.{ℕ, zero, suc, _≤_, _<_, _+_, _*_}
+-- Where the label hi becomes the smaller lo, the tags of both classes and no others come together, hi is the one tag that no longer labels
+-- itself, and the labels still agree with the log. Assumes nothing.
+use Prim.Native.Nat.{ℕ, zero, suc, _≤_, _<_}
 use native.Mathlib.Omega.{arith}
-use native.Mathlib.Decide.{ℕ-discrete, decLt}
-use mathlib.Core.Path.{_≡_, refl, sym, _∙_, subst, ap}
-use mathlib.Core.Logic.{_≢_, _↔_, _⊎_, inl, inr}
-use mathlib.Core.Bool.{Bool, true, false, cond}
+use native.Mathlib.Decide.{ℕ-discrete}
+use mathlib.Core.Path.{_≡_, refl, sym, _∙_, ap}
+use mathlib.Core.Logic.{_≢_, _⊎_, inl, inr}
+use mathlib.Core.Bool.{Bool, true, false}
 use mathlib.Core.List.{List, [], _∷_, map}
-use lib.Dec.{T, eqb}
-use borrow.Author.Tests.{eq-eqb, ne-eqb, eqb-true, eqb-false}
-use lib.ListN.{length, getD, length-map, List·getD-map, List·getD-eq-default}
-use Rattle.meaning.specs.Joins.{Join, Joined, Linked, here, below, over, back, count, tick}
+use lib.Dec.{eqb}
+use borrow.Author.Tests.{eq-eqb, ne-eqb}
+use lib.ListN.{length, getD, length-map, List·getD-map}
+use Rattle.meaning.specs.Joins.{Join, Joined, here, below, over, back, count, tick}
 use Rattle.meaning.proofs.Log.{linked-same}
 use Rattle.meaning.specs.Labels.{Labels, into, classes, Agree, labelOf}
 
@@ -47,7 +48,7 @@ module _ (f : ℕ → ℕ) (lo hi : ℕ) (L : Labels f) (own : f lo ≡ lo) (own
       flat x (yes p) = rw (p, into-hit lo hi, own, into-miss lo hi lo (omega arith))
       flat x (no p) = rw (into-miss lo hi (f x) p, L .flat x, into-miss lo hi (f x) p)
 
-  -- equal labels after: equal before, or one from each side
+  -- Labels that are equal after were equal before, or come one from each side.
   pub relabel-same : (x y : ℕ) → into lo hi (f x) ≡ into lo hi (f y) → (f x ≡ f y) ⊎ (((f x ≡ lo) × (f y ≡ hi)) ⊎ ((f x ≡ hi) × (f y ≡ lo)))
   relabel-same x y e = go (ℕ-discrete (f x) hi) (ℕ-discrete (f y) hi)
     where
@@ -64,11 +65,11 @@ module _ (f : ℕ → ℕ) (lo hi : ℕ) (L : Labels f) (own : f lo ≡ lo) (own
       go x n (yes p) = rw (p, into-hit lo hi, ne-eqb hi x (omega arith), ne-eqb lo x (λ e. let z : lo ≡ hi = cc in omega arith))
       go x n (no p) = rw (into-miss lo hi (f x) p)
 
--- the join leads from the class of lo to that of hi, or back
+-- The join leads from the class of lo to that of hi, or back.
 abbrev pub Ends : (ℕ → ℕ) → ℕ → ℕ → Join → Type 0
 Ends f lo hi j = ((f (j .u) ≡ lo) × (f (j .v) ≡ hi)) ⊎ ((f (j .u) ≡ hi) × (f (j .v) ≡ lo))
 
--- the labels follow the log through a join of the two classes
+-- The labels follow the log through a join of the two classes.
 module _ (e : ℕ → Join) (n : ℕ) (f : ℕ → ℕ) (A : Agree e n f) (lo hi : ℕ) (L : Labels f) (own : f lo ≡ lo) (own′ : f hi ≡ hi) (less : lo < hi) where
   pub relabel-agree : Ends f lo hi (e n) → Agree e (suc n) (λ x. into lo hi (f x))
   relabel-agree h = record { labels = λ x y. labels x y (bridge h); joins = λ x y p. joins x y (relabel-same f lo hi L own own′ less x y p) h }
@@ -102,13 +103,13 @@ pub start-classes : (N : ℕ) → classes (λ x. x) N ≡ N
 start-classes zero = refl
 start-classes (suc n) = rw (eq-eqb n n refl, start-classes n)
 
--- within the list the default plays no part
+-- Within the list the default plays no part.
 pub getD-any : (l : List ℕ) (n d d′ : ℕ) → n < length l → getD l n d ≡ getD l n d′
 getD-any [] n d d′ h = absurd (omega arith)
 getD-any (x ∷ l) zero d d′ h = refl
 getD-any (x ∷ l) (suc n) d d′ h = getD-any l n d d′ (omega arith)
 
--- a list holds such a labelling
+-- A list that holds a labelling is relabelled by a map.
 pub labelOf-map : (lo hi : ℕ) (l : List ℕ) → hi < length l → (x : ℕ) → labelOf (map (into lo hi) l) x ≡ into lo hi (labelOf l x)
 labelOf-map lo hi l h x = go (ℕ-discrete x hi)
   where

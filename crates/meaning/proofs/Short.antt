@@ -1,9 +1,10 @@
--- T8: a rising list of which none can be spared has at most 2(N - 1) numbers.
-use Prim.Native.Nat.{ℕ, zero, suc, _≤_, _<_, _+_, _*_, _-_}
+-- The log of the list's own closure entails again, by the records that it used, so a list of which none can be spared has only those; they are at most two for each join, and
+-- there are as many joins as tags less classes. So it has at most 2(N-C) numbers, and 2(N-1). Assumes nothing.
+use Prim.Native.Nat.{ℕ, zero, suc, _≤_, _<_, _*_, _-_}
 use native.Mathlib.Omega.{arith}
-use native.Mathlib.Decide.{ℕ-discrete, decLt}
-use mathlib.Core.Path.{_≡_, refl, sym, _∙_, ap}
-use mathlib.Core.Logic.{_≢_, _↔_, _⊎_, inl, inr}
+use native.Mathlib.Decide.{decLt}
+use mathlib.Core.Path.{_≡_, refl, ap}
+use mathlib.Core.Logic.{inl, inr}
 use mathlib.Core.Bool.{Bool, true, false, _||_}
 use mathlib.Core.List.{List, [], _∷_, List·Memᴰ, List·Memᴰ·head, List·Memᴰ·tail, List·Memᴰ·cases-cons, List·Memᴰ·not-nil}
 use lib.Dec.{T, eqb}
@@ -11,7 +12,7 @@ use borrow.Author.Tests.{eq-eqb, eqb-true}
 use lib.ListN.{length, getD}
 use Rattle.meaning.specs.Following.{Rec, eq, Follows, Those, Only, Without}
 use Rattle.meaning.specs.Reasons.{Above}
-use Rattle.meaning.specs.Joins.{Join, used, all, count, tick}
+use Rattle.meaning.specs.Joins.{used, all, count, tick}
 use Rattle.meaning.specs.Labels.{Labels, classes}
 use Rattle.meaning.specs.Totals.{Classes}
 use Rattle.meaning.proofs.Close.{more-of}
@@ -20,7 +21,7 @@ use Rattle.meaning.proofs.Log.{joined-follows, used-short}
 use Rattle.meaning.proofs.Rising.{rising-short}
 use Rattle.meaning.proofs.Reference.{Small, State, Done, done, done-same, stable}
 
--- membership as a test
+-- Membership as a test.
 abbrev pub among : List ℕ → ℕ → Bool
 among [] k = false
 among (x ∷ L) k = eqb k x || among L k

@@ -1,7 +1,8 @@
--- A slice as a table: a store is a change of one place.
+-- A list read at every place, with a default behind its end, is a table, and a store in it changes that one place
+-- and no other. Assumes nothing.
 use Prim.Native.Nat.{ℕ, _<_}
 use native.Mathlib.Decide.{ℕ-discrete}
-use mathlib.Core.Path.{_≡_, refl, fun-ext}
+use mathlib.Core.Path.{_≡_, fun-ext}
 use mathlib.Core.List.{List}
 use lib.ListN.{length, getD, set}
 use lib.Seq.{getD-set-same, getD-set-other}
@@ -14,7 +15,3 @@ set-put l d i v h = fun-ext (λ x. go x (ℕ-discrete x i))
     go : (x : ℕ) → Dec (x ≡ i) → getD (set l i v) x (d x) ≡ put i v (λ x. getD l x (d x)) x
     go x (yes q) = rw (q, put-hit i v (λ x. getD l x (d x))) (getD-set-same l i v (d i) h)
     go x (no q) = rw (put-miss i v (λ x. getD l x (d x)) x q) (getD-set-other l i x v (d x) q)
-
--- so what holds of the changed table holds of the slice after the store
-moved-on : (Q : (ℕ → ℕ) → Type 0) (l : List ℕ) (i v : ℕ) → i < length l → Q (put i v (λ x. getD l x 7)) → Q (λ x. getD (set l i v) x 7)
-moved-on Q l i v h q = rw (set-put l (λ x. 7) i v h) q

@@ -1,14 +1,14 @@
--- T5, T6: taking spare records out; the last record of a reason.
-use Prim.Native.Nat.{ℕ, zero, suc, _≤_, _<_, _+_, _*_}
+-- Fewer records entail less, so what could not be spared before a record was taken out cannot be spared after it: going through once is enough. The last number of a
+-- rising list that entails is the first k, since all its records stand up to that number. Assumes nothing.
+use Prim.Native.Nat.{ℕ, suc, _≤_, _<_}
 use native.Mathlib.Omega.{arith}
 use native.Mathlib.Decide.{ℕ-discrete, decLt}
-use mathlib.Core.Path.{_≡_, refl, sym, _∙_, subst, ap}
-use mathlib.Core.Logic.{_≢_, _↔_, _⊎_, inl, inr}
+use mathlib.Core.Path.{_≡_, refl, sym, _∙_}
+use mathlib.Core.Logic.{_≢_, _↔_, inl, inr}
 use mathlib.Core.Bool.{Bool, true, false, cond}
 use mathlib.Core.List.{List, [], _∷_, _++_, append-assoc, append-nil, List·Memᴰ, List·Memᴰ·head, List·Memᴰ·tail, List·Memᴰ·append-cases, List·Memᴰ·cases-cons, List·Memᴰ·not-nil, List·Memᴰ·eq-of-singleton, Memᴰ·append-left, Memᴰ·append-right}
 use lib.Dec.{T}
-use lib.ListN.{length, length-append}
-use Rattle.meaning.specs.Following.{Rec, Follows, Those, Only, UpTo, Without}
+use Rattle.meaning.specs.Following.{Rec, Follows, Those, Only, Without}
 use Rattle.meaning.specs.Reasons.{Above, lastOf, FirstAt}
 use Rattle.meaning.specs.Trim.{Trimmed, trim}
 use Rattle.meaning.specs.Joins.{put}
@@ -30,7 +30,7 @@ module _ {rs : List Rec} {s t : ℕ} where
       go m l (yes p) = rw p e
       go m l (no p) = h .unspared m (omega arith)
 
--- a set with the same numbers serves as well
+-- A set with the same numbers serves as well.
 pub trim-same : {rs : List Rec} {s t : ℕ} {X Y : ℕ → Type 0} {i : ℕ} → ((k : ℕ) → X k ↔ Y k) → Trimmed rs s t X i → Trimmed rs s t Y i
 trim-same e h = record {
   entails = more-of (λ k. e k .0) (h .entails);
@@ -96,7 +96,7 @@ last-is-first rs s t k L f a u e = go (decLt (lastOf 0 L) k)
     go (yes l) = absurd (f .before (lastOf 0 L) l (more-of (member-le-last 0 L a) e))
     go (no l) = omega (arith, last-le 0 k L (omega arith) u)
 
--- a set held as a table of bits, with one bit cleared
+-- A set held as a table of bits, with one bit cleared.
 pub drop-bit : (x : ℕ → Bool) (i n : ℕ) → (T (x n) × (n ≢ i)) ↔ T (put i false x n)
 drop-bit x i n = (λ h. rw (put-miss i false x n (h .1)) (h .0), λ t. go t (ℕ-discrete n i))
   where

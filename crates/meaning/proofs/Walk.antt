@@ -1,14 +1,13 @@
--- The steps of following a reason, the join's age falling: both sides of the newest join, its arguments, then its mark.
-use Prim.Native.Nat.{ℕ, zero, suc, _≤_, _<_}
-use native.Mathlib.Omega.{arith}
+-- A newest join is followed on both its sides and between its arguments, all by older joins, and marked after them: so every marked join rests on
+-- marked ones at every step. Assumes nothing.
+use Prim.Native.Nat.{ℕ, _<_}
 use native.Mathlib.Decide.{ℕ-discrete}
-use mathlib.Core.Path.{_≡_, refl}
-use mathlib.Core.Logic.{_≢_}
-use mathlib.Core.Bool.{Bool, true, false}
+use mathlib.Core.Path.{_≡_}
+use mathlib.Core.Bool.{Bool, true}
 use mathlib.Core.List.{List}
 use lib.Dec.{T}
 use Rattle.meaning.specs.Following.{Rec, eq, app, At}
-use Rattle.meaning.specs.Joins.{Why, by, cong, Join, Linked, over, back, Grounds, equation, applications, Supported, put}
+use Rattle.meaning.specs.Joins.{by, cong, Join, Linked, over, Grounds, equation, applications, Supported, put}
 use Rattle.meaning.specs.Walk.{Walked}
 use Rattle.meaning.proofs.Log.{linked-more, linked-refl, linked-sym, linked-up, grounds-more, put-hit, put-miss}
 
@@ -19,7 +18,7 @@ mark-old b m a t = go (ℕ-discrete a b)
     go (yes q) = rw (q, put-hit b true m) tt
     go (no q) = rw (put-miss b true m a q) t
 
--- one more mark, on a join that rests on marked ones
+-- One more mark, on a join that rests on marked ones.
 pub mark-supported : {rs : List Rec} {e : ℕ → Join} {m : ℕ → Bool} {n : ℕ} (b : ℕ) → Grounds rs (Linked e m b) (e b .u) (e b .v) (e b .why) → Supported rs e m n → Supported rs e (put b true m) n
 mark-supported {rs} {e} {m} {n} b g s a l t = go (ℕ-discrete a b)
   where
@@ -34,7 +33,7 @@ module _ {rs : List Rec} {e : ℕ → Join} {n : ℕ} where
   pub walk-flip : {m m′ : ℕ → Bool} {b s t : ℕ} → Walked rs e n m m′ b s t → Walked rs e n m m′ b t s
   walk-flip w = record { more = w .more; supported = w .supported; linked = linked-sym (w .linked) }
 
-  -- an equation's join
+  -- The join of an equation.
   pub walk-by : {m m₁ m₂ : ℕ → Bool} {s t k : ℕ} (b c : ℕ) → b < c → e b .why ≡ by k → At rs k (eq (e b .u) (e b .v))
       → Walked rs e n m m₁ b s (e b .u) → Walked rs e n m₁ m₂ b (e b .v) t → Walked rs e n m (put b true m₂) c s t
   walk-by {m₂ = m₂} b c l w i x y = record {
@@ -43,7 +42,7 @@ module _ {rs : List Rec} {e : ℕ → Join} {n : ℕ} where
     linked = linked-up c l (over (rw (put-hit b true m₂) tt) (linked-more (λ a t. mark-old b m₂ a (y .more a t)) (x .linked)) (linked-more (mark-old b m₂) (y .linked)));
   }
 
-  -- a join of two applications: its arguments besides
+  -- The join of two applications: its arguments were followed besides.
   pub walk-cong : {m m₁ m₂ m₃ m₄ : ℕ → Bool} {s t k k′ x x′ y y′ : ℕ} (b c : ℕ) → b < c → e b .why ≡ cong k k′ → At rs k (app x y (e b .u)) → At rs k′ (app x′ y′ (e b .v))
       → Walked rs e n m m₁ b s (e b .u) → Walked rs e n m₁ m₂ b (e b .v) t → Walked rs e n m₂ m₃ b x x′ → Walked rs e n m₃ m₄ b y y′ → Walked rs e n m (put b true m₄) c s t
   walk-cong {m₂ = m₂} {m₄ = m₄} b c l w i i′ p q r r′ = record {

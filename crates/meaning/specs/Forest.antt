@@ -1,7 +1,7 @@
 -- MACHINERY for the proofs; no meaning rests on it. The classes after each join, from one table of links: p x is the tag that x was linked to, g x the
 -- age of that link. Assumes nothing.
 use Prim.Native.Nat.{ℕ, zero, suc, _≤_, _<_}
-use mathlib.Core.Bool.{Bool, true, false, cond}
+use mathlib.Core.Bool.{cond}
 use mathlib.Core.Logic.{_⊎_}
 use mathlib.Core.Path.{_≡_}
 use lib.Dec.{ltb}

@@ -2,7 +2,7 @@
 -- "Reasons", has it: "A list followed this way may still hold a spare record, which is then taken out". Assumes nothing.
 use Prim.Native.Nat.{ℕ, _<_}
 use mathlib.Core.Logic.{_≢_}
-use mathlib.Core.Bool.{Bool, true, false, cond}
+use mathlib.Core.Bool.{Bool, cond}
 use mathlib.Core.List.{List, [], _∷_, _++_}
 use Rattle.meaning.specs.Following.{Rec, Follows, Those}
 

@@ -18,8 +18,11 @@ numbers [] = []
 numbers (n ∷ ns) = two n ++ numbers ns
 
 -- A field is one kind byte, a two-byte length, then the body.
+unfoldable pub front : ℕ → ℕ → List ℕ
+front kind size = kind ∷ two size
+
 unfoldable pub field : ℕ → List ℕ → List ℕ
-field kind body = kind ∷ (two (length body) ++ body)
+field kind body = front kind (length body) ++ body
 
 -- The right fields for a question, on N tags, that the first R of the job's records rs stand before. 83 hex (131): leader of s, leader
 -- of t. 84 (132): the reason's record numbers. 85 (133): none, the equality does not follow.

@@ -1,25 +1,18 @@
+-- `job::advance` meets its contract: each arm has what the field said, and the laws of reading say what that leads to.
+-- The field is whole, so that the next place lies within the job; the limits bound every sum.
+-- Assumes nothing.
 use borrow.Author.Needs.{needs}
 use Rattle.job.proofs.advance.Statement.{statement}
 use Rattle.job.proofs.advance.Tie as tie
-use Rattle.job.proofs.advance.Reads as reads
-use Rattle.job.proofs.advance.Lts as lts
-use Rattle.job.proofs.allowed.Reads as allowed-reads
-use Rattle.job.proofs.ended.Reads as ended-reads
-use Rattle.job.proofs.field_at.Reads as field-at-reads
-use Rattle.job.proofs.most_numbers.Reads as most-numbers-reads
 use Rattle.job.specs.Reading.{checked}
 use Rattle.job.specs.Answer.{said}
 use Rattle.job.proofs.Reading.{done-bad, done-end, end-there, on-header, on-record, on-ask, on-explain}
-use mathlib.Core.Path.{_≡_, refl, sym, ap, _∙_}
-use mathlib.Core.List.{List, map}
-use Prim.Native.Nat.{ℕ, zero, suc, _+_, _-_, _*_, _≤_, _<_}
-use native.Mathlib.Omega.{arith}
-use lib.ListN.{length, getD, set, take, drop, length-set}
-use mathlib.Core.Logic.{⊎-elim}
+use mathlib.Core.Path.{refl, sym, ap, _∙_}
+use Prim.Native.Nat.{_-_}
 use denote.Ref.{now}
 
-field-at-requires : tie.Need-field-at-requires
-field-at-requires c κs = search needs
+read-requires : tie.Need-read-requires
+read-requires c κs = search needs
 
 allowed-requires : tie.Need-allowed-requires
 allowed-requires c κs = search needs
@@ -91,63 +84,63 @@ ended-requires : tie.Need-ended-requires
 ended-requires c κs =
     let b = c .before .before in
     let a = b .before .before .before in
-    let e = sym (b .allowed .ensures ∙ ap (checked (a .args .s .size) (a .args .s .records) (a .args .s .questions)) (b .before .field-at .ensures)) ∙ ap said (c .enum-told5 .given .1) in
+    let e = sym (b .allowed .ensures ∙ ap (checked (a .args .s .size) (a .args .s .records) (a .args .s .questions)) (b .before .read .ensures)) ∙ ap said (c .enum-told5 .given .1) in
     (a .pre, end-there (now (a .args .job)) (a .args .s) (a .pre) e)
 
 returns : tie.Need-returns
 returns c =
     let b = c .before .before .before in
     let a = b .before .before .before in
-    let e = sym (b .allowed .ensures ∙ ap (checked (a .args .s .size) (a .args .s .records) (a .args .s .questions)) (b .before .field-at .ensures)) ∙ ap said (c .before .field .given .1) in
+    let e = sym (b .allowed .ensures ∙ ap (checked (a .args .s .size) (a .args .s .records) (a .args .s .questions)) (b .before .read .ensures)) ∙ ap said (c .before .field .given .1) in
     done-bad (now (a .args .job)) (a .args .s) (a .pre) _ _ e refl
 
 returns-2 : tie.Need-returns-2
 returns-2 c =
     let b = c .before .before .before in
     let a = b .before .before .before in
-    let e = sym (b .allowed .ensures ∙ ap (checked (a .args .s .size) (a .args .s .records) (a .args .s .questions)) (b .before .field-at .ensures)) ∙ ap said (c .before .field2 .given .1) in
+    let e = sym (b .allowed .ensures ∙ ap (checked (a .args .s .size) (a .args .s .records) (a .args .s .questions)) (b .before .read .ensures)) ∙ ap said (c .before .field2 .given .1) in
     on-header (now (a .args .job)) (a .args .s) (a .pre) _ e
 
 returns-3 : tie.Need-returns-3
 returns-3 c =
     let b = c .before .before .before in
     let a = b .before .before .before in
-    let e = sym (b .allowed .ensures ∙ ap (checked (a .args .s .size) (a .args .s .records) (a .args .s .questions)) (b .before .field-at .ensures)) ∙ ap said (c .before .enum-told .given .1) in
+    let e = sym (b .allowed .ensures ∙ ap (checked (a .args .s .size) (a .args .s .records) (a .args .s .questions)) (b .before .read .ensures)) ∙ ap said (c .before .enum-told .given .1) in
     on-record (now (a .args .job)) (a .args .s) (a .pre) _ e
 
 returns-4 : tie.Need-returns-4
 returns-4 c =
     let b = c .before .before .before in
     let a = b .before .before .before in
-    let e = sym (b .allowed .ensures ∙ ap (checked (a .args .s .size) (a .args .s .records) (a .args .s .questions)) (b .before .field-at .ensures)) ∙ ap said (c .before .enum-told2 .given .1) in
+    let e = sym (b .allowed .ensures ∙ ap (checked (a .args .s .size) (a .args .s .records) (a .args .s .questions)) (b .before .read .ensures)) ∙ ap said (c .before .enum-told2 .given .1) in
     on-record (now (a .args .job)) (a .args .s) (a .pre) _ e
 
 returns-5 : tie.Need-returns-5
 returns-5 c =
     let b = c .before .before .before .before in
     let a = b .before .before .before in
-    let e = sym (b .allowed .ensures ∙ ap (checked (a .args .s .size) (a .args .s .records) (a .args .s .questions)) (b .before .field-at .ensures)) ∙ ap said (c .before .before .enum-told3 .given .1) in
+    let e = sym (b .allowed .ensures ∙ ap (checked (a .args .s .size) (a .args .s .records) (a .args .s .questions)) (b .before .read .ensures)) ∙ ap said (c .before .before .enum-told3 .given .1) in
     on-ask (now (a .args .job)) (a .args .s) (a .pre) _ _ e
 
 returns-6 : tie.Need-returns-6
 returns-6 c =
     let b = c .before .before .before .before .before in
     let a = b .before .before .before in
-    let e = sym (b .allowed .ensures ∙ ap (checked (a .args .s .size) (a .args .s .records) (a .args .s .questions)) (b .before .field-at .ensures)) ∙ ap said (c .before .before .before .enum-told4 .given .1) in
+    let e = sym (b .allowed .ensures ∙ ap (checked (a .args .s .size) (a .args .s .records) (a .args .s .questions)) (b .before .read .ensures)) ∙ ap said (c .before .before .before .enum-told4 .given .1) in
     on-explain (now (a .args .job)) (a .args .s) (a .pre) _ _ _ (c .before .most-numbers .ensures) e
 
 returns-7 : tie.Need-returns-7
 returns-7 c =
     let b = c .before .before .before in
     let a = b .before .before .before in
-    let e = sym (b .allowed .ensures ∙ ap (checked (a .args .s .size) (a .args .s .records) (a .args .s .questions)) (b .before .field-at .ensures)) ∙ ap said (c .before .enum-told5 .given .1) in
+    let e = sym (b .allowed .ensures ∙ ap (checked (a .args .s .size) (a .args .s .records) (a .args .s .questions)) (b .before .read .ensures)) ∙ ap said (c .before .enum-told5 .given .1) in
     done-end (now (a .args .job)) (a .args .s) (a .pre) _ e (c .ended .ensures)
 
 pub advance-spec : {M : Type 1} → statement M
 advance-spec =
     tie.close
     (tie.spec
-    field-at-requires
+    read-requires
     allowed-requires
     enum-known-field
     enum-known-field-2

@@ -1,20 +1,14 @@
+-- `job::body` meets its contract: each arm has its kind, at which `bodyAt` computes, and reads as many numbers as the kind has.
+-- Assumes nothing.
 use borrow.Author.Needs.{needs}
 use Rattle.job.proofs.body.Statement.{statement}
 use Rattle.job.proofs.body.Tie as tie
-use Rattle.job.proofs.body.Reads as reads
-use Rattle.job.proofs.body.Lts as lts
-use Rattle.job.proofs.number.Reads as number-reads
-use Rattle.job.proofs.tag.Reads as tag-reads
 use Rattle.job.specs.Reading.{bodyLength}
 use Rattle.job.specs.Answer.{kindOf}
 use Rattle.job.specs.declared.Kind.{Kind as KindCode}
-use mathlib.Core.Path.{_≡_, refl, sym, ap, _∙_}
-use mathlib.Core.List.{List, map}
-use Prim.Native.Nat.{ℕ, zero, suc, _+_, _-_, _*_, _≤_, _<_}
+use mathlib.Core.Path.{ap}
+use Prim.Native.Nat.{ℕ, _-_}
 use native.Mathlib.Omega.{arith}
-use lib.ListN.{length, getD, set, take, drop, length-set}
-use mathlib.Core.Logic.{⊎-elim}
-use denote.Ref.{now}
 
 abbrev due : KindCode → ℕ
 due k = bodyLength (kindOf k)

@@ -1,21 +1,15 @@
+-- `job::field_at` meets its contract: three bytes are there or not, and the rest is `of_kind`'s.
+-- Assumes nothing.
 use borrow.Author.Needs.{needs}
 use Rattle.job.proofs.field_at.Statement.{statement}
 use Rattle.job.proofs.field_at.Tie as tie
-use Rattle.job.proofs.field_at.Reads as reads
-use Rattle.job.proofs.field_at.Lts as lts
-use Rattle.job.proofs.kind_at.Reads as kind-at-reads
-use Rattle.job.proofs.of_kind.Reads as of-kind-reads
 use borrow.Author.Tests.{le-leb, lt-leb}
 use Rattle.job.specs.Reading.{fieldAt}
-use mathlib.Core.Path.{_≡_, refl, sym, ap, _∙_}
-use mathlib.Core.List.{List, map}
-use Prim.Native.Nat.{ℕ, zero, suc, _+_, _-_, _*_, _≤_, _<_}
+use Prim.Native.Nat.{_+_, _-_, _≤_, _<_}
 use native.Mathlib.Omega.{arith}
-use lib.ListN.{length, getD, set, take, drop, length-set}
-use mathlib.Core.Logic.{⊎-elim}
+use lib.ListN.{length}
 use denote.Ref.{now}
 
--- src/lib.rt:190:9
 returns : tie.Need-returns
 unfolding fieldAt
 returns c =
@@ -23,11 +17,9 @@ returns c =
     let short : length (now (a .job)) < a .at + 3 = omega arith in
     simp (lt-leb _ _ short)
 
--- src/lib.rt:192:8
 sub-if2 : tie.Need-sub-if2
 sub-if2 c = search needs
 
--- src/lib.rt:193:9
 returns-2 : tie.Need-returns-2
 unfolding fieldAt
 returns-2 c =
@@ -35,19 +27,15 @@ returns-2 c =
     let short : length (now (a .job)) < a .at + 3 = omega arith in
     simp (lt-leb _ _ short)
 
--- src/lib.rt:195:34
 shared-slice-read-kind-at : tie.Need-shared-slice-read-kind-at
 shared-slice-read-kind-at c = search needs
 
--- src/lib.rt:195:22
 kind-at-requires : tie.Need-kind-at-requires
 kind-at-requires c κs = search needs
 
--- src/lib.rt:195:5
 of-kind-requires : tie.Need-of-kind-requires
 of-kind-requires c κs = search needs
 
--- src/lib.rt:186:1
 returns-3 : tie.Need-returns-3
 unfolding fieldAt
 returns-3 c =

@@ -1,92 +1,64 @@
+-- `job::is_numbered` meets its contract: each arm has its field, at which `numbered` computes.
+-- Assumes nothing.
 use borrow.Author.Needs.{needs}
 use Rattle.job.proofs.is_numbered.Statement.{statement}
 use Rattle.job.proofs.is_numbered.Tie as tie
-use Rattle.job.proofs.is_numbered.Reads as reads
-use Rattle.job.proofs.is_numbered.Lts as lts
-use Rattle.job.proofs.all_below.Reads as all-below-reads
-use Rattle.job.proofs.are_below.Reads as are-below-reads
-use Rattle.job.proofs.is_size.Reads as is-size-reads
-use mathlib.Core.Path.{_≡_, refl, sym, ap, _∙_}
-use mathlib.Core.List.{List, map}
-use Prim.Native.Nat.{ℕ, zero, suc, _+_, _-_, _*_, _≤_, _<_}
-use native.Mathlib.Omega.{arith}
-use lib.ListN.{length, getD, set, take, drop, length-set}
-use mathlib.Core.Logic.{⊎-elim}
-use denote.Ref.{now}
+use Prim.Native.Nat.{_-_}
 
--- src/lib.rt:270:26
 enum-told : tie.Need-enum-told
 enum-told c = search needs
 
--- src/lib.rt:271:23
 enum-known-field : tie.Need-enum-known-field
 enum-known-field c = search needs
 
--- src/lib.rt:271:29
 is-size-requires : tie.Need-is-size-requires
 is-size-requires c κs = search needs
 
--- src/lib.rt:272:25
 enum-known-field-2 : tie.Need-enum-known-field-2
 enum-known-field-2 c = search needs
 
--- src/lib.rt:272:34
 are-below-requires : tie.Need-are-below-requires
 are-below-requires c κs = search needs
 
--- src/lib.rt:273:28
 enum-known-field-3 : tie.Need-enum-known-field-3
 enum-known-field-3 c = search needs
 
--- src/lib.rt:273:40
 all-below-requires : tie.Need-all-below-requires
 all-below-requires c κs = search needs
 
--- src/lib.rt:274:20
 enum-known-field-4 : tie.Need-enum-known-field-4
 enum-known-field-4 c = search needs
 
--- src/lib.rt:274:29
 are-below-requires-2 : tie.Need-are-below-requires-2
 are-below-requires-2 c κs = search needs
 
--- src/lib.rt:275:24
 enum-known-field-5 : tie.Need-enum-known-field-5
 enum-known-field-5 c = search needs
 
--- src/lib.rt:275:33
 are-below-requires-3 : tie.Need-are-below-requires-3
 are-below-requires-3 c κs = search needs
 
--- src/lib.rt:276:23
 enum-told-2 : tie.Need-enum-told-2
 enum-told-2 c = search needs
 
--- src/lib.rt:266:1
 returns : tie.Need-returns
 returns c = search needs
 
--- src/lib.rt:266:1
 returns-2 : tie.Need-returns-2
 returns-2 c = rw (c .before .before .field .given .1) (c .is-size .ensures)
 
--- src/lib.rt:266:1
 returns-3 : tie.Need-returns-3
 returns-3 c = rw (c .before .before .field2 .given .1) (c .are-below .ensures)
 
--- src/lib.rt:266:1
 returns-4 : tie.Need-returns-4
 returns-4 c = rw (c .before .before .field3 .given .1) (c .all-below .ensures)
 
--- src/lib.rt:266:1
 returns-5 : tie.Need-returns-5
 returns-5 c = rw (c .before .before .field4 .given .1) (c .are-below2 .ensures)
 
--- src/lib.rt:266:1
 returns-6 : tie.Need-returns-6
 returns-6 c = rw (c .before .before .field5 .given .1) (c .are-below3 .ensures)
 
--- src/lib.rt:266:1
 returns-7 : tie.Need-returns-7
 returns-7 c = search needs
 

@@ -1,13 +1,9 @@
 -- `job::kind_at` meets its contract: the tests that led to a return say which case of `kindAt` holds.
 -- Assumes nothing.
-use mathlib.Core.Path.{sym, ap}
 use borrow.Author.Needs.{needs}
 use borrow.Author.Tests.{eq-eqb, ne-eqb}
 use Rattle.job.proofs.kind_at.Statement.{statement}
 use Rattle.job.proofs.kind_at.Tie as tie
-use Rattle.job.proofs.kind_at.Reads as reads
-use Rattle.job.proofs.kind_at.Lts as lts
-use Rattle.job.proofs.later_kind.Reads as later-kind-reads
 
 later-kind-requires : tie.Need-later-kind-requires
 later-kind-requires c κs = search needs

@@ -1,62 +1,45 @@
+-- `job::of_kind` meets its contract: the tests stand in the order of `ofKind`, and each return has those that led to it.
+-- Assumes nothing.
 use borrow.Author.Needs.{needs}
 use Rattle.job.proofs.of_kind.Statement.{statement}
 use Rattle.job.proofs.of_kind.Tie as tie
-use Rattle.job.proofs.of_kind.Reads as reads
-use Rattle.job.proofs.of_kind.Lts as lts
-use Rattle.job.proofs.body.Reads as body-reads
-use Rattle.job.proofs.body_length.Reads as body-length-reads
-use Rattle.job.proofs.is_known.Reads as is-known-reads
-use Rattle.job.proofs.number.Reads as number-reads
-use Rattle.job.proofs.wide.Reads as wide-reads
 use mathlib.Core.Bool.{true}
 use borrow.Author.Tests.{eq-eqb, ne-eqb, le-leb, lt-leb}
 use Rattle.job.specs.Reading.{known, bodyLength, numberAt}
 use Rattle.job.specs.Answer.{kindOf}
-use mathlib.Core.Path.{_≡_, refl, sym, ap, _∙_}
-use mathlib.Core.List.{List, map}
-use Prim.Native.Nat.{ℕ, zero, suc, _+_, _-_, _*_, _≤_, _<_}
+use mathlib.Core.Path.{_≡_, sym, _∙_}
+use Prim.Native.Nat.{_+_, _-_, _≤_, _<_}
 use native.Mathlib.Omega.{arith}
-use lib.ListN.{length, getD, set, take, drop, length-set}
-use mathlib.Core.Logic.{⊎-elim}
+use lib.ListN.{length}
 use denote.Ref.{now}
 
--- src/lib.rt:168:8
 is-known-requires : tie.Need-is-known-requires
 is-known-requires c κs = search needs
 
--- src/lib.rt:169:13
 body-length-requires : tie.Need-body-length-requires
 body-length-requires c κs = search needs
 
--- src/lib.rt:170:34
 add-number : tie.Need-add-number
 add-number c = search needs
 
--- src/lib.rt:170:13
 number-requires : tie.Need-number-requires
 number-requires c κs = search needs
 
--- src/lib.rt:172:16
 wide-requires : tie.Need-wide-requires
 wide-requires c κs = search needs
 
--- src/lib.rt:172:42
 add-if3 : tie.Need-add-if3
 add-if3 c = search needs
 
--- src/lib.rt:172:29
 sub-if3 : tie.Need-sub-if3
 sub-if3 c = search needs
 
--- src/lib.rt:173:27
 add-body : tie.Need-add-body
 add-body c = search needs
 
--- src/lib.rt:173:17
 body-requires : tie.Need-body-requires
 body-requires c κs = search needs
 
--- src/lib.rt:164:1
 returns : tie.Need-returns
 returns c =
     let b = c .before .before .before .before .before .before .before in
@@ -67,7 +50,6 @@ returns c =
     let whole : a .at + 3 + bodyLength (kindOf (a .kind)) ≤ length (now (a .job)) = omega (arith, due) in
     rw (is, eq-eqb _ _ fits, le-leb _ _ whole) (c .body .ensures)
 
--- src/lib.rt:164:1
 returns-2 : tie.Need-returns-2
 returns-2 c =
     let b = c .before .before .before .before .before .before in
@@ -78,7 +60,6 @@ returns-2 c =
     let short : length (now (a .job)) < a .at + 3 + bodyLength (kindOf (a .kind)) = omega (arith, due) in
     rw (is, eq-eqb _ _ fits, lt-leb _ _ short)
 
--- src/lib.rt:164:1
 returns-3 : tie.Need-returns-3
 returns-3 c =
     let b = c .before .before .before .before in
@@ -87,7 +68,6 @@ returns-3 c =
     let due : c .before .before .body-length .result ≡ bodyLength (kindOf (a .kind)) = c .before .before .body-length .ensures in
     rw (is, ne-eqb _ _ (λ e. c .if2 .left (c .before .number .ensures ∙ e ∙ sym due)))
 
--- src/lib.rt:164:1
 returns-4 : tie.Need-returns-4
 returns-4 c = rw (sym (c .before .is-known .ensures) ∙ c .if1 .left)
 

@@ -1,0 +1,45 @@
+-- A sound report is no longer than the room that document 01 calls needed: the numbers of a reason rise within 1 to R, so that they are
+-- at most R many, and by the last point of a reason they are at most 2(N-1).
+-- Assumes nothing.
+use Prim.Native.Nat.{ℕ, zero, suc, _+_, _*_, _-_, _≤_, _<_, min}
+use native.Mathlib.Omega.{arith}
+use mathlib.Core.Path.{_≡_, refl}
+use mathlib.Core.List.{List, [], _∷_, _++_, List·Memᴰ, List·Memᴰ·head, List·Memᴰ·tail}
+use lib.ListN.{length, length-append}
+use Rattle.meaning.specs.Following.{Rec}
+use Rattle.meaning.specs.Reasons.{Above, Reason}
+use Rattle.job.specs.Items.{Item, noted, ask, explain, neededRoom}
+use Rattle.report.specs.Report.{numbers, field, Answers, led, because, apart, Totalled, total, Sound, totals, passed, answered}
+use Rattle.report.proofs.Bytes.{length-numbers, length-field}
+
+-- Rising numbers above m and up to R are at most R - m many.
+pub rising-few : (m R : ℕ) (L : List ℕ) → Above m L → ((k : ℕ) → List·Memᴰ k L → k ≤ R) → length L ≤ R - m
+rising-few m R [] a h = omega arith
+rising-few m R (k ∷ L) a h = omega (arith, h k (List·Memᴰ·head refl), rising-few k R L (a .1) (λ n i. h n (List·Memᴰ·tail i)))
+
+pub reason-few : {N : ℕ} {rs : List Rec} {R s t : ℕ} {L : List ℕ} → Reason N rs R s t L → length L ≤ min R (2 * (N - 1))
+reason-few {N} {rs} {R} {s} {t} {L} r = omega (arith, rising-few 0 R L (r .rising) (r .stand), r .short)
+
+-- The room for one question.
+abbrev pub roomFor : ℕ → ℕ → Item → ℕ
+roomFor N R (noted r) = 0
+roomFor N R (ask s t) = 7
+roomFor N R (explain s t) = 3 + 2 * min R (2 * (N - 1))
+
+pub answers-fits : {N : ℕ} {rs : List Rec} {R : ℕ} {q : Item} {f : List ℕ} → Answers N rs R q f → length f ≤ roomFor N R q
+answers-fits (led {l = l} {m = m} h k) = omega (arith, length-field 131 (numbers (l ∷ m ∷ [])), length-numbers (l ∷ m ∷ []))
+answers-fits {N} {rs} {R} (because {L = L} r) = omega (arith, length-field 132 (numbers L), length-numbers L, reason-few r)
+answers-fits (apart h) = omega (arith, length-field 133 [])
+
+pub totalled-length : {N : ℕ} {rs : List Rec} {bs : List ℕ} → Totalled N rs bs → length bs ≡ 7
+totalled-length (total {c} {i} h k) = omega (arith, length-field 143 (numbers (c ∷ i ∷ [])), length-numbers (c ∷ i ∷ []))
+
+pub sound-fits : {N : ℕ} {rs : List Rec} {R : ℕ} {is : List Item} {bs : List ℕ} → Sound N rs R is bs → length bs ≤ neededRoom N R is
+sound-fits (totals t) = omega (arith, totalled-length t)
+sound-fits (passed s) = sound-fits s
+sound-fits (answered {is = is} {bs = bs} a s) = rw length-append (room is a (length bs) (answers-fits a) (sound-fits s))
+  where
+    room : {N : ℕ} {rs : List Rec} {R : ℕ} {q : Item} {f : List ℕ} (is : List Item) → Answers N rs R q f → (n : ℕ) → length f ≤ roomFor N R q → n ≤ neededRoom N R is → length f + n ≤ neededRoom N R (q ∷ is)
+    room is (led _ _) n h k = omega arith
+    room is (because _) n h k = omega arith
+    room is (apart _) n h k = omega arith
