@@ -7,7 +7,6 @@ use mathlib.Core.Path.{_≡_, refl, sym, _∙_, ap}
 use mathlib.Core.Bool.{Bool, true, false, cond}
 use mathlib.Core.List.{List, [], _∷_}
 use lib.ListN.{length}
-use Rattle.meaning.specs.Following.{Rec}
 use Rattle.job.specs.Items.{Item, noted, ask, explain, recordsOf}
 use Rattle.job.specs.Reading.{Field, bad, header, item, end, spanOf, fieldAt}
 use Rattle.job.specs.Standing.{Stands, Met}

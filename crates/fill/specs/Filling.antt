@@ -6,7 +6,7 @@ use mathlib.Core.Path.{_≡_}
 use mathlib.Core.Bool.{true, false}
 use mathlib.Core.List.{List, [], _∷_}
 use lib.ListN.{length, getD, drop}
-use Rattle.meaning.specs.Following.{Rec, eq, app}
+use Rattle.meaning.specs.Following.{Rec, eq}
 use Rattle.job.specs.Items.{Item, noted, ask, explain, accepted, recordsOf}
 use Rattle.job.specs.Reading.{Field, bad, header, item, end, spanOf, reading}
 use Rattle.job.specs.Standing.{Stands}

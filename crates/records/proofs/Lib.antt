@@ -3,3 +3,4 @@ pub mod Again
 pub mod Lent
 pub mod Cleared
 pub mod Places
+pub mod Shown

@@ -4,13 +4,11 @@
 use borrow.Author.Needs.{needs}
 use Rattle.fill.proofs.look.Statement.{statement}
 use Rattle.fill.proofs.look.Tie as tie
-use mathlib.Core.Path.{_≡_, refl, sym, ap, _∙_}
+use mathlib.Core.Path.{sym, ap, _∙_}
 use native.Mathlib.Omega.{arith}
 use denote.Ref.{now}
-use Rattle.job.specs.Reading.{item}
 use Rattle.job.specs.Answer.{said}
 use Rattle.job.proofs.Reading.{field-whole}
-use Rattle.fill.specs.Filling.{foundAt}
 
 field-at-requires : tie.Need-field-at-requires
 field-at-requires c κs = search needs

@@ -4,7 +4,6 @@
 use borrow.Author.Needs.{needs}
 use Rattle.fill.proofs.next_record.Statement.{statement}
 use Rattle.fill.proofs.next_record.Tie as tie
-use denote.Ref.{now}
 use Rattle.fill.proofs.Seeking.{Seeking, left, seeking-begin, seeking-on, seeking-falls, seeking-done}
 
 abbrev Inv-loop : tie.InvT-loop

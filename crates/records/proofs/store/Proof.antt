@@ -1,5 +1,7 @@
--- `records::store` meets its contract: a walk of its MIR, by hand. The place of `records[at]` is computed, the borrow is opened, one element is taken out of the row and stored to, and the borrow is closed at the list with the record in it.
-use mathlib.Core.Path.{_≡_, refl, sym, ap, subst}
+-- `store` meets its contract: a walk of its MIR, by hand. The place of `records[i]` is computed, the borrow is opened, one element is taken
+-- out of the row and stored to, and the borrow is closed at the list with the record in it.
+-- Assumes nothing.
+use mathlib.Core.Path.{refl, sym, ap, subst}
 use Prim.Native.Nat.{ℕ, _<_, _^_, _*_}
 use native.Mathlib.Omega.{arith}
 use mathlib.Core.List.{List, [], _∷_}
