@@ -105,7 +105,7 @@ fn ended(name: &[u8], rest: &[u8], number: u64, place: u64) {
     front(name, &room, end, number, place);
 }
 
-fn first_field() {
+fn no_first_field() {
     case(b"empty", b"", 3, 0);
     case(b"one_byte_of_a_header", b"\x10", 3, 0);
     case(b"two_bytes_of_a_header", b"\x10\x00", 3, 0);
@@ -114,6 +114,9 @@ fn first_field() {
     case(b"header_without_body", b"\x10\x00\x02", 3, 0);
     case(b"header_with_half_a_body", b"\x10\x00\x02\x00", 3, 0);
     case(b"header_alone", b"\x10\x00\x02\x00\x02", 3, 5);
+}
+
+fn wrong_first_field() {
     later(b"header_and_end", b"\x7F\x00\x00", 0, 0);
     case(b"end_first", b"\x7F\x00\x00", 4, 0);
     case(b"unknown_first", b"\xFF\x00\x00", 4, 0);
@@ -126,11 +129,14 @@ fn first_field() {
     case(b"ask_first", b"\x03\x00\x04\x00\x00\x00\x00", 4, 0);
 }
 
-fn header() {
+fn header_lengths() {
     case(b"header_too_long", b"\x10\x00\x03\x00\x02\x00", 5, 0);
     case(b"header_of_no_length", b"\x10\x00\x00", 5, 0);
     case(b"header_length_258", b"\x10\x01\x02\x00\x02", 5, 0);
     case(b"header_length_swapped", b"\x10\x02\x00\x00\x02", 5, 0);
+}
+
+fn header_numbers() {
     case(b"n_0", b"\x10\x00\x02\x00\x00\x7F\x00\x00", 6, 0);
     case(b"n_1", b"\x10\x00\x02\x00\x01\x7F\x00\x00", 0, 0);
     case(b"n_1000", b"\x10\x00\x02\x03\xE8\x7F\x00\x00", 0, 0);
@@ -139,11 +145,14 @@ fn header() {
     case(b"n_1001_and_no_more", b"\x10\x00\x02\x03\xE9", 6, 0);
 }
 
-fn second_field() {
+fn stray_bytes() {
     later(b"one_byte_of_an_end", b"\x7F", 3, 5);
     later(b"two_bytes_of_an_end", b"\x7F\x00", 3, 5);
     later(b"one_stray_byte_later", b"\xFF", 3, 5);
     later(b"two_stray_bytes_later", b"\xFF\xFF", 3, 5);
+}
+
+fn misplaced_kinds() {
     later(b"unknown_later", b"\xFF\xFF\xFF", 4, 5);
     later(b"kind_00", b"\x00\x00\x00", 4, 5);
     later(b"kind_05", b"\x05\x00\x04\x00\x00\x00\x00", 4, 5);
@@ -153,10 +162,13 @@ fn second_field() {
     later(b"second_10_cut", b"\x10\x00", 3, 5);
 }
 
-fn lengths() {
+fn end_lengths() {
     later(b"end_with_a_body", b"\x7F\x00\x01\x00", 5, 5);
     later(b"end_with_a_length_only", b"\x7F\x00\x01", 5, 5);
     later(b"end_length_256", b"\x7F\x01\x00", 5, 5);
+}
+
+fn body_lengths() {
     later(b"equation_length_3", b"\x01\x00\x03\x00\x00\x00", 5, 5);
     later(
         b"equation_length_5",
@@ -192,7 +204,7 @@ fn lengths() {
     later(b"wrong_length_and_no_body", b"\x02\x00\x09", 5, 5);
 }
 
-fn bodies() {
+fn bodies_cut() {
     later(b"equation_without_body", b"\x01\x00\x04", 3, 5);
     later(
         b"equation_one_byte_short",
@@ -208,6 +220,9 @@ fn bodies() {
     );
     later(b"ask_three_bytes_short", b"\x03\x00\x04\x00", 3, 5);
     later(b"explain_one_byte_short", b"\x04\x00\x04\xFF\xFF\xFF", 3, 5);
+}
+
+fn ends_cut() {
     later(b"record_and_no_end", b"\x01\x00\x04\x00\x00\x00\x01", 3, 12);
     later(
         b"record_and_one_byte",
@@ -224,7 +239,7 @@ fn bodies() {
     ended(b"record_and_end", b"\x01\x00\x04\x00\x00\x00\x01", 0, 0);
 }
 
-fn tags() {
+fn record_tags() {
     ended(b"equation_a_is_n", b"\x01\x00\x04\x00\x02\x00\x00", 6, 5);
     ended(b"equation_b_is_n", b"\x01\x00\x04\x00\x00\x00\x02", 6, 5);
     ended(b"equation_n_minus_1", b"\x01\x00\x04\x00\x01\x00\x01", 0, 0);
@@ -252,13 +267,16 @@ fn tags() {
         0,
         0,
     );
+}
+
+fn question_tags() {
     ended(b"ask_s_is_n", b"\x03\x00\x04\x00\x02\x00\x00", 6, 5);
     ended(b"ask_t_is_n", b"\x03\x00\x04\x00\x00\x00\x02", 6, 5);
     ended(b"explain_s_is_n", b"\x04\x00\x04\x00\x02\x00\x00", 6, 5);
     ended(b"explain_t_is_n", b"\x04\x00\x04\x00\x00\x00\x02", 6, 5);
 }
 
-fn more_tags() {
+fn tag_limits() {
     later(b"tag_65535", b"\x01\x00\x04\xFF\xFF\x00\x00", 6, 5);
     later(b"tag_256_of_2", b"\x01\x00\x04\x01\x00\x00\x00", 6, 5);
     case(
@@ -297,6 +315,9 @@ fn more_tags() {
         6,
         5,
     );
+}
+
+fn later_tags() {
     ended(
         b"second_record",
         b"\x01\x00\x04\x00\x00\x00\x01\x01\x00\x04\x00\x00\x00\x02",
@@ -822,13 +843,20 @@ fn single_changes(bytes: &mut [u8]) {
 }
 
 fn table() {
-    first_field();
-    header();
-    second_field();
-    lengths();
-    bodies();
-    tags();
-    more_tags();
+    no_first_field();
+    wrong_first_field();
+    header_lengths();
+    header_numbers();
+    stray_bytes();
+    misplaced_kinds();
+    end_lengths();
+    body_lengths();
+    bodies_cut();
+    ends_cut();
+    record_tags();
+    question_tags();
+    tag_limits();
+    later_tags();
     behind_the_end();
 }
 

@@ -6,3 +6,4 @@ pub mod Fault
 pub mod Read
 pub mod Listing
 pub mod Right
+pub mod Decided

@@ -12,14 +12,13 @@ use Rattle.meaning.specs.Reasons.{Reason}
 use Rattle.meaning.specs.Totals.{Classes, Idles}
 use Rattle.meaning.proofs.Decide.{leader-one}
 use Rattle.meaning.proofs.Laws.{classes-one, idles-one, reason-follows}
-use Rattle.job.specs.Items.{Item, noted, ask, explain}
+use Rattle.job.specs.Items.{Item, ask, explain}
 use Rattle.report.specs.Report.{numbers, field, Answers, led, because, apart, Totalled, total, Sound, totals, answered}
 use Rattle.report.specs.Fault.{Stands, stands, FaultAt, behind, spare}
 use Rattle.report.specs.Read.{Holds, FrontAt, whole, none}
-use Rattle.report.specs.declared.Front.{Front}
 use Rattle.report.specs.declared.Front.the-variants.{Field, Cut}
 use Rattle.report.proofs.Bytes.{numbers-one, length-numbers, field-one}
-use Rattle.report.proofs.Fault.{Fielded, answers-field, totalled-field}
+use Rattle.report.proofs.Fault.{Fielded}
 use Rattle.report.proofs.Read.{holds-rest, holds-one, field-body}
 
 -- What stands at the front of the bytes.

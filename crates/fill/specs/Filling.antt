@@ -1,0 +1,40 @@
+-- Document 01, "The job and the report": the records of a job in the order they stand, as the cursor meets them one after the other, and
+-- as they then stand in the record table.
+-- Assumes nothing.
+use Prim.Native.Nat.{ℕ, _+_, _≤_, _<_}
+use mathlib.Core.Path.{_≡_}
+use mathlib.Core.Bool.{true, false}
+use mathlib.Core.List.{List, [], _∷_}
+use lib.ListN.{length, getD, drop}
+use Rattle.meaning.specs.Following.{Rec, eq}
+use Rattle.job.specs.Items.{Item, noted, ask, explain, accepted, recordsOf}
+use Rattle.job.specs.Reading.{Field, bad, header, item, end, spanOf, reading}
+use Rattle.job.specs.Standing.{Stands}
+use Rattle.records.specs.declared.Record.{Record}
+use Rattle.records.specs.Table.{blank, placeOf}
+use Rattle.fill.specs.declared.Found.{Found}
+
+-- What a field at a place gives: a record, a question to be passed over, or nothing.
+abbrev pub foundAt : ℕ → Field → Found
+foundAt at (bad n) = record { question = false; place = blank; next = at }
+foundAt at (header M) = record { question = false; place = blank; next = at }
+foundAt at (item (noted r)) = record { question = false; place = placeOf r; next = at + spanOf (noted r) }
+foundAt at (item (ask s t)) = record { question = true; place = blank; next = at + 7 }
+foundAt at (item (explain s t)) = record { question = true; place = blank; next = at + 7 }
+foundAt at end = record { question = false; place = blank; next = at }
+
+-- The first record of the items that stand at a place was found, and the items behind it stand at the next place.
+pub record First (job : List ℕ) (N : ℕ) (r : Rec) (rs : List Rec) (f : Found) : Type 0 where
+  pub others : List Item
+  pub is : f .place ≡ placeOf r
+  pub behind : recordsOf others ≡ rs
+  pub stands : Stands job N (f .next) others
+
+abbrev pub Seeks : List ℕ → ℕ → Found → Type 0
+Seeks job at f = (N : ℕ) (items : List Item) (r : Rec) (rs : List Rec) → Stands job N at items → recordsOf items ≡ r ∷ rs → First job N r rs f
+
+-- The first n records of an accepted job stand in the first n places of the table t′, and the rest is as it was in t.
+pub record Filled (job : List ℕ) (n : ℕ) (t t′ : List Record) : Type 0 where
+  pub size : length t′ ≡ length t
+  pub rest : drop n t′ ≡ drop n t
+  pub holds : (N : ℕ) (items : List Item) → reading job ≡ accepted N items → n ≤ length (recordsOf items) → (k : ℕ) → k < n → getD t′ k blank ≡ placeOf (getD (recordsOf items) k (eq 0 0))

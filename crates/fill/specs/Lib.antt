@@ -1,0 +1,3 @@
+pub mod Filling
+pub mod Loading
+pub mod Handing

@@ -1,0 +1,113 @@
+-- Two outcomes that meet the run's promise on the same lent things are one, but for the choice among reasons: reading is a function, the
+-- cases exclude each other, leaders, classes and idle records are one, and a table of a length whose places are all told is one.
+-- Assumes nothing.
+use Prim.Native.Nat.{ℕ, zero, suc, _+_, _≤_, _<_}
+use native.Mathlib.Omega.{arith}
+use mathlib.Core.Path.{_≡_, refl, sym, _∙_, ap, ap₂}
+use mathlib.Core.Logic.{_⊎_, inl, inr}
+use mathlib.Core.List.{List, [], _∷_, _++_}
+use lib.ListN.{length, getD, drop}
+use Rattle.meaning.specs.Following.{Rec}
+use Rattle.meaning.proofs.Decide.{leader-one}
+use Rattle.meaning.proofs.Laws.{classes-one, idles-one, reason-follows}
+use Rattle.job.specs.Items.{Item, noted, ask, explain, Reading, refused, accepted, recordsOf, neededRoom}
+use Rattle.job.specs.Reading.{reading}
+use Rattle.records.specs.declared.Record.{Record}
+use Rattle.records.specs.Table.{blank, Blanked}
+use Rattle.report.specs.Report.{numbers, field, Answers, led, because, apart, Totalled, total, Sound, totals, passed, answered}
+use Rattle.haltzurme.specs.Run.{Cleared, Lent, Emptied, Ran, long, narrow, unread, cramped, done}
+use Rattle.haltzurme.specs.Alike.{Alike, same, reasoned, OneRun, equal, chosen}
+use Rattle.haltzurme.specs.Alike as alike
+
+-- Two lists of one length whose first k members agree, and what lies behind them, are one.
+pub list-one : {A : Type 0} (d : A) (k : ℕ) (l l′ : List A) → length l′ ≡ length l → ((i : ℕ) → i < k → getD l′ i d ≡ getD l i d) → drop k l′ ≡ drop k l → l′ ≡ l
+list-one d zero l l′ e h r = r
+list-one d (suc k) [] [] e h r = refl
+list-one d (suc k) [] (y ∷ ys) e h r = absurd (omega arith)
+list-one d (suc k) (x ∷ xs) [] e h r = absurd (omega arith)
+list-one d (suc k) (x ∷ xs) (y ∷ ys) e h r = ap₂ _∷_ (h 0 (omega arith)) (list-one d k xs ys (omega arith) (λ i l. h (suc i) (omega arith)) r)
+
+pub cleared-one : {w a b : List ℕ} → Cleared w a → Cleared w b → a ≡ b
+cleared-one {w} {a} {b} c d = list-one 0 32768 b a (c .size ∙ sym (d .size)) (λ i l. c .zero i l ∙ sym (d .zero i l)) (c .rest ∙ sym (d .rest))
+
+pub blanked-one : {t a b : List Record} → Blanked t a → Blanked t b → a ≡ b
+blanked-one {t} {a} {b} c d = list-one blank 4000 b a (c .size ∙ sym (d .size)) (λ i l. c .zero i l ∙ sym (d .zero i l)) (c .rest ∙ sym (d .rest))
+
+totalled-one : {N : ℕ} {rs : List Rec} {f g : List ℕ} → Totalled N rs f → Totalled N rs g → f ≡ g
+totalled-one (total c i) (total d j) = ap₂ (λ (x y : ℕ). field 143 (numbers (x ∷ y ∷ []))) (classes-one c d) (idles-one i j)
+
+led-alike : {N : ℕ} {rs : List Rec} {R s t l m l′ m′ : ℕ} {is : List Item} {bs bs′ : List ℕ} → l ≡ l′ → m ≡ m′ → Alike N rs R is bs bs′
+    → Alike N rs R (ask s t ∷ is) (field 131 (numbers (l ∷ m ∷ [])) ++ bs) (field 131 (numbers (l′ ∷ m′ ∷ [])) ++ bs′)
+led-alike {l′ = l′} {m′ = m′} p q a = rw (p, q) (alike.answered (field 131 (numbers (l′ ∷ m′ ∷ []))) a)
+
+-- Two sound reports of the same items differ at most in the choice among reasons.
+pub sound-alike : {N : ℕ} {rs : List Rec} {R : ℕ} {is : List Item} {bs bs′ : List ℕ} → Sound N rs R is bs → Sound N rs R is bs′ → Alike N rs R is bs bs′
+sound-alike (totals t) (totals u) = same (totalled-one t u)
+sound-alike (passed s) (passed u) = alike.passed (sound-alike s u)
+sound-alike (answered (led h k) s) (answered (led h′ k′) u) = led-alike (leader-one h h′) (leader-one k k′) (sound-alike s u)
+sound-alike (answered (because r) s) (answered (because r′) u) = reasoned r r′ (sound-alike s u)
+sound-alike (answered (because r) s) (answered (apart n) u) = absurd (n (reason-follows r))
+sound-alike (answered (apart n) s) (answered (because r) u) = absurd (n (reason-follows r))
+sound-alike (answered (apart n) s) (answered (apart n′) u) = alike.answered (field 133 []) (sound-alike s u)
+
+-- What is long enough is not short.
+lent-not : {job : List ℕ} {records : List Record} {work : List ℕ} → Lent job records work → (length records < 4000) ⊎ (length work < 32768) → ⊥
+lent-not i (inl h) = omega (arith, i .places)
+lent-not i (inr h) = omega (arith, i .numbers)
+
+-- Reading gives one answer.
+clash : {X : Reading} {n p N : ℕ} {items : List Item} → X ≡ refused n p → X ≡ accepted N items → ⊥
+clash e f = let z : _≡_ {A = ℕ} 0 1 = cc in omega arith
+
+refused-one : {X : Reading} {n p n′ p′ : ℕ} → X ≡ refused n p → X ≡ refused n′ p′ → (n ≡ n′) × (p ≡ p′)
+refused-one e f = (cc, cc)
+
+accepted-one : {X : Reading} {N N′ : ℕ} {items items′ : List Item} → X ≡ accepted N items → X ≡ accepted N′ items′ → (N ≡ N′) × (items ≡ items′)
+accepted-one e f = (cc, cc)
+
+-- So both need the same room.
+room-one : {X : Reading} {N N′ : ℕ} {items items′ : List Item} → X ≡ accepted N items → X ≡ accepted N′ items′ → neededRoom N 0 items ≡ neededRoom N′ 0 items′
+room-one e f = let a = accepted-one e f in ap₂ (λ (n : ℕ) (is : List Item). neededRoom n 0 is) (a .0) (a .1)
+
+module _ {room : List ℕ} {records₁ records₂ : List Record} {work₁ work₂ : List ℕ} (r : records₁ ≡ records₂) (w : work₁ ≡ work₂) where
+  refused-same : {n p n′ p′ : ℕ} → n ≡ n′ → p ≡ p′ → OneRun room records₁ records₂ work₁ work₂ n p 0 room n′ p′ 0 room
+  refused-same a b = rw (a, b) (equal r w)
+
+  done-same : {N N′ : ℕ} {items items′ : List Item} {bs bs′ : List ℕ} → N ≡ N′ → items ≡ items′ → Sound N (recordsOf items) 0 items bs → Sound N′ (recordsOf items′) 0 items′ bs′
+      → OneRun room records₁ records₂ work₁ work₂ 0 0 (length bs) (bs ++ drop (length bs) room) 0 0 (length bs′) (bs′ ++ drop (length bs′) room)
+  done-same {N} {N′} {items} {items′} {bs} {bs′} a b s s′ =
+      let t : Sound N (recordsOf items) 0 items bs′ = rw (a, b) s′ in
+      chosen r w (sound-alike s t)
+
+pub run-one : {job room : List ℕ} {records : List Record} {work : List ℕ} {n p l n′ p′ l′ : ℕ} {room₁ room₂ : List ℕ} {records₁ records₂ : List Record} {work₁ work₂ : List ℕ}
+    → Ran job room records work n p l room₁ records₁ work₁ → Ran job room records work n′ p′ l′ room₂ records₂ work₂
+    → OneRun room records₁ records₂ work₁ work₂ n p l room₁ n′ p′ l′ room₂
+run-one (long h) (long k) = equal refl refl
+run-one (long h) (narrow k t) = absurd (omega arith)
+run-one (long h) (unread i e m) = absurd (omega (arith, i .short))
+run-one (long h) (cramped i e s m) = absurd (omega (arith, i .short))
+run-one (long h) (done i e s r m) = absurd (omega (arith, i .short))
+run-one (narrow h t) (long k) = absurd (omega arith)
+run-one (narrow h t) (narrow k u) = equal refl refl
+run-one (narrow h t) (unread i e m) = absurd (lent-not i t)
+run-one (narrow h t) (cramped i e s m) = absurd (lent-not i t)
+run-one (narrow h t) (done i e s r m) = absurd (lent-not i t)
+run-one (unread i e m) (long k) = absurd (omega (arith, i .short))
+run-one (unread i e m) (narrow k t) = absurd (lent-not i t)
+run-one (unread i e m) (unread i′ e′ m′) =
+    let a = refused-one e e′ in
+    refused-same (blanked-one (m .blanked) (m′ .blanked)) (cleared-one (m .cleared) (m′ .cleared)) (a .0) (a .1)
+run-one (unread i e m) (cramped i′ e′ s′ m′) = absurd (clash e e′)
+run-one (unread i e m) (done i′ e′ s′ r′ m′) = absurd (clash e e′)
+run-one (cramped i e s m) (long k) = absurd (omega (arith, i .short))
+run-one (cramped i e s m) (narrow k t) = absurd (lent-not i t)
+run-one (cramped i e s m) (unread i′ e′ m′) = absurd (clash e′ e)
+run-one (cramped i e s m) (cramped i′ e′ s′ m′) = equal (blanked-one (m .blanked) (m′ .blanked)) (cleared-one (m .cleared) (m′ .cleared))
+run-one (cramped i e s m) (done i′ e′ s′ r′ m′) = absurd (omega (arith, room-one e e′))
+run-one (done i e s r m) (long k) = absurd (omega (arith, i .short))
+run-one (done i e s r m) (narrow k t) = absurd (lent-not i t)
+run-one (done i e s r m) (unread i′ e′ m′) = absurd (clash e′ e)
+run-one (done i e s r m) (cramped i′ e′ s′ m′) = absurd (omega (arith, room-one e e′))
+run-one (done i e s r m) (done i′ e′ s′ r′ m′) =
+    let a = accepted-one e e′ in
+    done-same (blanked-one (m .blanked) (m′ .blanked)) (cleared-one (m .cleared) (m′ .cleared)) (a .0) (a .1) r r′

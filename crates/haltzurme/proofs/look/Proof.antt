@@ -1,0 +1,54 @@
+-- `haltzurme::look` meets its contract: reading answers its definition, and the needed room is compared last.
+-- Assumes nothing.
+use borrow.Author.Needs.{needs}
+use Rattle.job.proofs.Standing.{told-refused, told-accepted}
+use Rattle.haltzurme.specs.Look.{unread, cramped, ready}
+use Rattle.haltzurme.proofs.look.Statement.{statement}
+use Rattle.haltzurme.proofs.look.Tie as tie
+use Rattle.haltzurme.proofs.look.Reads as reads
+use Rattle.haltzurme.proofs.look.Lts as lts
+use Rattle.job.proofs.number_of.Reads as number-of-reads
+use Rattle.job.proofs.read_job.Reads as read-job-reads
+use native.Mathlib.Omega.{arith}
+use denote.Ref.{now}
+
+read-job-requires : tie.Need-read-job-requires
+read-job-requires c κs = search needs
+
+enum-known-fault : tie.Need-enum-known-fault
+enum-known-fault c = search needs
+
+number-of-requires : tie.Need-number-of-requires
+number-of-requires c κs = search needs
+
+enum-known-size : tie.Need-enum-known-size
+enum-known-size c = search needs
+
+returns : tie.Need-returns
+returns c =
+    let j = c .before .before .before .before in
+    rw (c .number-of .ensures) (unread (told-refused (now (j .before .before .args .job)) (c .before .before .fault .given .0 .0) (c .before .before .fault .given .0 .1 .0) (rw (c .before .before .fault .given .1) at (j .read-job .ensures))))
+
+returns-2 : tie.Need-returns-2
+returns-2 c =
+    let j = c .before .before .before .before in
+    let t = told-accepted (now (j .before .before .args .job)) _ _ _ _ (rw (c .before .before .size .given .1) at (j .read-job .ensures)) in
+    cramped (t .reads) (omega (arith, t .needed, c .if1 .taken))
+
+returns-3 : tie.Need-returns-3
+returns-3 c =
+    let j = c .before .before .before .before in
+    let t = told-accepted (now (j .before .before .args .job)) _ _ _ _ (rw (c .before .before .size .given .1) at (j .read-job .ensures)) in
+    rw (t .records) (ready (t .reads) (omega (arith, t .needed, c .if1 .left)))
+
+pub look-spec : {M : Type 1} → statement M
+look-spec =
+    tie.close
+    (tie.spec
+    read-job-requires
+    enum-known-fault
+    number-of-requires
+    enum-known-size
+    returns
+    returns-2
+    returns-3)
