@@ -60,3 +60,20 @@ pub fn write_output(bytes: &[u8]) -> bool {
 pub fn write_error(bytes: &[u8]) -> bool {
     io::write_all(libc::STDERR_FILENO, bytes)
 }
+
+// Writes the first n bytes, or answers false, also where so many are not there.
+fn write_part(descriptor: i32, bytes: &[u8], n: usize) -> bool {
+    if n <= bytes.len() {
+        io::write_all(descriptor, &bytes[..n])
+    } else {
+        false
+    }
+}
+
+pub fn write_output_front(bytes: &[u8], n: usize) -> bool {
+    write_part(libc::STDOUT_FILENO, bytes, n)
+}
+
+pub fn write_error_front(bytes: &[u8], n: usize) -> bool {
+    write_part(libc::STDERR_FILENO, bytes, n)
+}
