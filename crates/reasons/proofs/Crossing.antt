@@ -20,7 +20,7 @@ use Rattle.table.specs.Map.{leftOf, rightOf, parentOf, ageOf, firstOf, secondOf
 use Rattle.table.proofs.Frame.{seen-in, within-refl, within-trans, within-wider, within-set}
 use Rattle.closure.specs.Past.{Past}
 use Rattle.reasons.specs.Meeting.{leaderAt, Met}
-use Rattle.reasons.specs.Tracing.{marked, Holds, Together, Crossed, Ended, Sided, Caused, Traced}
+use Rattle.reasons.specs.Tracing.{marked, Holds, Together, Crossed, Ended, Sided, Caused, Traced, Unmarked}
 use Rattle.reasons.proofs.Kept.{kept-parents, kept-ages, kept-records, kept-joins, kept-past, kept-holds, holds-fewer}
 use Rattle.reasons.proofs.Known.{Stands, One, Two, join-one, join-two}
 
@@ -217,3 +217,24 @@ pub caused-two : {w w₁ w₂ w′ : List ℕ} {b q a a′ c c′ : ℕ} → Hol
     → w′ ≡ set w₂ (30096 + b) 1 → Traced w w′ (suc b) (joinAt w b .u) (joinAt w b .v)
 caused-two {w} {w₁} {w₂} {w′} {b} h k z x y e =
     rw e (taken-two (holds-ranged h .age) (h .past .loaded .long) (λ i. z (k .second-is ∙ i)) (rw (k .a-is, k .a′-is) at x) (rw (k .c-is, k .c′-is) at y))
+
+-- Taking the marks off, one by one.
+pub unmarked-start : (w : List ℕ) → Unmarked w w 0
+unmarked-start w = record { kept = within-refl w; none = λ a l. absurd (omega arith) }
+
+pub unmarked-more : {w w₁ w₂ : List ℕ} {b : ℕ} → b < 1000 → 32768 ≤ length w → w₂ ≡ set w₁ (30096 + b) 0 → Unmarked w w₁ b → Unmarked w w₂ (suc b)
+unmarked-more {w} {w₁} {w₂} {b} l h e u = record {
+  kept = within-trans (u .kept) (rw e (within-set 30096 31096 w₁ (30096 + b) 0 (omega arith) (omega arith)));
+  none = λ a k. ap (λ (f : ℕ → ℕ). f a) mark ∙ go a k (ℕ-discrete a b);
+}
+  where
+    mark : markOf w₂ ≡ put b 0 (markOf w₁)
+    mark = ap markOf e ∙ seen-in 30096 1000 (λ x. 0) w₁ b 0 l (omega (arith, u .kept .size))
+
+    go : (a : ℕ) → a < suc b → Dec (a ≡ b) → put b 0 (markOf w₁) a ≡ 0
+    go a k (yes q) = rw q (put-hit b 0 (markOf w₁))
+    go a k (no q) = rw (put-miss b 0 (markOf w₁) a q) (u .none a (omega arith))
+
+-- Where no join is marked, the marked ones rest on each other.
+pub unmarked-supported : {w w′ : List ℕ} {n : ℕ} (rs : List Rec) (e : ℕ → Join) → Unmarked w w′ n → Supported rs e (marked w′) n
+unmarked-supported {w} {w′} rs e u a l t = absurd (rw (u .none a l) at t)

@@ -18,7 +18,7 @@ use Rattle.table.specs.Map.{leftOf, rightOf, resultOf, parentOf, ageOf, firstOf
 use Rattle.table.proofs.Frame.{seen-within, gather-same}
 use Rattle.closure.specs.Past.{Past}
 use Rattle.reasons.specs.Meeting.{Forested}
-use Rattle.reasons.specs.Tracing.{Holds}
+use Rattle.reasons.specs.Tracing.{marked, Holds}
 
 -- The past, said of functions.
 record Bare (N len n : ℕ) (rs : List Rec) (e : ℕ → Join) (p g h : ℕ → ℕ) : Type 0 where
@@ -78,6 +78,10 @@ module _ {e : ℕ} {w w′ : List ℕ} (f : Within 17003 e w w′) where
 
   pub kept-holds : {a : ℕ} → Holds w a → Holds w′ a
   kept-holds h = record { tags = h .tags; len = h .len; joins = h .joins; past = kept-past (h .past); reach = h .reach }
+
+-- Writing in the list leaves the marks.
+pub kept-marks : {w w′ : List ℕ} → Within 17003 21003 w w′ → marked w′ ≡ marked w
+kept-marks f = fun-ext (λ a. ap (λ (m : ℕ → ℕ). eqb (m a) 1) (seen-within 30096 1000 (λ x. 0) f (inr (omega arith))))
 
 -- The links do not ask how many joins there are.
 pub links-all : {p g : ℕ → ℕ} {n : ℕ} → Links p g 1000 n → n ≤ 1000 → Links p g 1000 1000

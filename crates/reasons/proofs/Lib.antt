@@ -3,3 +3,7 @@ pub mod Kept
 pub mod Known
 pub mod Moments
 pub mod Crossing
+pub mod Gathering
+pub mod Sparing
+pub mod Noting
+pub mod Whole

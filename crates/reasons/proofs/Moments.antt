@@ -85,6 +85,10 @@ module _ {N len n : ℕ} {w : List ℕ} (P : Past N len w n) where
   pub age-after-most : (k : ℕ) → ageAfter w n k ≤ n
   age-after-most k = count-most (λ a. leb (whenOf w a) k) n
 
+  -- A join has been made once its own record is in.
+  pub made-by : (b : ℕ) → b < n → b < ageAfter w n (whenOf w b)
+  made-by b l = front-in (whenOf w) (whenOf w b) n (P .order) b l (omega arith)
+
   -- Once together, together.
   together-later : (s t a b : ℕ) → a ≤ b → b ≤ n → leaderAt w a s ≡ leaderAt w a t → leaderAt w b s ≡ leaderAt w b t
   together-later s t a b l m q = P .history .then b m .labels s t (linked-up b l (P .history .then a (omega arith) .joins s t q))
@@ -105,7 +109,7 @@ module _ {N len n : ℕ} {w : List ℕ} (P : Past N len w n) where
     pub met-first : b < n → FirstAt (recordsIn len w) s t (whenOf w b)
     met-first l = record {
       then = settled-same (P .moments (whenOf w b) (P .made b l .1)) s t .1 (together-later s t (suc b) (ageAfter w n (whenOf w b))
-          (front-in (whenOf w) (whenOf w b) n (P .order) b l (omega arith)) (age-after-most (whenOf w b)) (M .joined (omega (arith, P .history .room))));
+          (made-by b l) (age-after-most (whenOf w b)) (M .joined (omega (arith, P .history .room))));
       before = λ m h f. M .apart (ageAfter w n m) (front-out (whenOf w) m n (P .order) b l h) (settled-same (P .moments m (omega (arith, P .made b l .1))) s t .0 f);
     }
 

@@ -1,2 +1,6 @@
 pub mod Meeting
 pub mod Tracing
+pub mod Listing
+pub mod Trimming
+pub mod Rising
+pub mod Explaining

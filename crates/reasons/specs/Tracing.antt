@@ -66,3 +66,8 @@ pub record Traced (w w′ : List ℕ) (limit s t : ℕ) : Type 0 where
   pub kept : Within 30096 31096 w w′
   pub walked : (N len n : ℕ) → Past N len w n → limit ≤ n → Supported (recordsIn len w) (joinAt w) (marked w) n
       → Walked (recordsIn len w) (joinAt w) n (marked w) (marked w′) limit s t
+
+-- From w to w′ only marks were taken off, all those of the first n joins.
+pub record Unmarked (w w′ : List ℕ) (n : ℕ) : Type 0 where
+  pub kept : Within 30096 31096 w w′
+  pub none : (a : ℕ) → a < n → markOf w′ a ≡ 0

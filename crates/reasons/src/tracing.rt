@@ -1,9 +1,10 @@
 // Following a reason through the joins: across the newest join between two tags, along both sides of it and into its argument pairs,
 // all of which rest on older joins. Document 01, "Reasons". Rests on meeting and table.
 ghost use mathlib.Core.Path.{_≡_};
-ghost use Prim.Native.Nat.{ℕ, suc, _≤_, _<_};
+ghost use Prim.Native.Nat.{ℕ, suc, _+_, _≤_, _<_};
+ghost use lib.ListN.{length, set};
 ghost use Rattle.table.specs.Map.{joinAt};
-ghost use Rattle.reasons.specs.Tracing.{Holds, Together, Crossed, Ended, Sided, Caused, Traced};
+ghost use Rattle.reasons.specs.Tracing.{Holds, Together, Crossed, Ended, Sided, Caused, Traced, Unmarked};
 use meaning::RecordNo;
 use meaning::Tag;
 
@@ -116,5 +117,25 @@ fn take(work: &mut [u16], b: usize)
             trace(work, c, c2, b);
         }
         table::put_mark(work, b);
+    }
+}
+
+// A join is not taken into a reason.
+fn unmark(work: &mut [u16], a: usize)
+    requires { ⌜ (32768 ≤ length (now work)) × (a < 1000) ⌝ }
+    ensures { λ _. ⌜ now (work .exit) ≡ set (now (work .entry)) (30096 + a) 0 ⌝ }
+{
+    work[table::MARKS + a] = 0;
+}
+
+// None of the first n joins is.
+pub fn unmark_all(work: &mut [u16], n: usize)
+    requires { ⌜ (32768 ≤ length (now work)) × (n ≤ 1000) ⌝ }
+    ensures { λ _. ⌜ Unmarked (now (work .entry)) (now (work .exit)) n ⌝ }
+{
+    let mut a: usize = 0;
+    while a < n {
+        unmark(work, a);
+        a += 1;
     }
 }
