@@ -1,3 +1,3 @@
 pub mod Clearing
 pub mod One
-pub mod Finish
+pub mod Whole
