@@ -3,16 +3,22 @@
 ghost use mathlib.Core.Path.{_≡_};
 ghost use Prim.Native.Nat.{ℕ, _+_, _≤_, _<_};
 ghost use lib.ListN.{length};
-ghost use Rattle.haltzurme.specs.Run.{Wiped, Cleared};
+ghost use Rattle.haltzurme.specs.Run.{Wiped, Cleared, Lent, Ran};
+ghost use Rattle.haltzurme.specs.Finish.{Begun, Finished};
 ghost use Rattle.haltzurme.specs.Look.{Looked};
+use fill::take_in;
 use job::Answer as Read;
 use job::number_of;
 use job::read_job;
+use records::Record;
+use records::clear as blank_out;
 
 // Document 01's limits: the longest job, and the named places of the work table.
 pub const LONGEST: usize = 43008;
 
 pub const NAMED: usize = 32768;
+
+pub const PLACES: usize = 4000;
 
 // What a call answers: document 01's number, its place, and the length of the report.
 pub struct Answer {
@@ -92,4 +98,57 @@ fn clear(work: &mut [u16])
     ensures { λ _. ⌜ Cleared (now (work .entry)) (now (work .exit)) ⌝ }
 {
     wipe(&mut work[0..NAMED]);
+}
+
+// The rest of a run, with no record table in sight.
+fn finish(job: &[u8], room: &mut [u8], work: &mut [u16], s: Sight) -> Answer
+    requires { ⌜ Begun (now job) (now room) (now work) s ⌝ }
+    ensures { λ r. ⌜ Finished (now (job .entry)) (now (room .entry)) (now (work .entry)) (r .number) (r .place) (r .length) (now (room .exit)) (now (work .exit)) ⌝ }
+{
+    clear(work);
+    Answer {
+        number: s.number,
+        place: s.place,
+        length: 0,
+    }
+}
+
+// A run whose job and tables are not at fault by their lengths.
+fn carry_out(job: &[u8], room: &mut [u8], records: &mut [Record], work: &mut [u16]) -> Answer
+    requires { ⌜ Lent (now job) (now records) (now work) ⌝ }
+    ensures { λ r. ⌜ Ran (now (job .entry)) (now (room .entry)) (now (records .entry)) (now (work .entry)) (r .number) (r .place) (r .length) (now (room .exit)) (now (records .exit)) (now (work .exit)) ⌝ }
+{
+    let s = look(job, room.len());
+    take_in(job, records, work, s.records);
+    let out = finish(job, room, work, s);
+    blank_out(records);
+    out
+}
+
+// Answers a job: the report comes to the front of the room, and both tables are left zero in their named places.
+pub fn run(job: &[u8], room: &mut [u8], records: &mut [Record], work: &mut [u16]) -> Answer
+    ensures { λ r. ⌜ Ran (now (job .entry)) (now (room .entry)) (now (records .entry)) (now (work .entry)) (r .number) (r .place) (r .length) (now (room .exit)) (now (records .exit)) (now (work .exit)) ⌝ }
+{
+    if LONGEST < job.len() {
+        return Answer {
+            number: 1,
+            place: 0,
+            length: 0,
+        };
+    }
+    if records.len() < PLACES {
+        return Answer {
+            number: 2,
+            place: 0,
+            length: 0,
+        };
+    }
+    if work.len() < NAMED {
+        return Answer {
+            number: 2,
+            place: 0,
+            length: 0,
+        };
+    }
+    carry_out(job, room, records, work)
 }
