@@ -2,13 +2,14 @@
 -- Assumes nothing.
 use Prim.Native.Nat.{ℕ, suc, _+_, _≤_}
 use mathlib.Core.Path.{_≡_}
+use mathlib.Core.Bool.{Bool, true, false}
 use mathlib.Core.List.{List, [], _++_}
-use lib.ListN.{length}
+use lib.ListN.{length, drop}
 use Rattle.meaning.specs.Following.{Rec}
 use Rattle.job.specs.Items.{Item, noted, ask, explain, Reading, refused, accepted, recordsOf, neededRoom}
 use Rattle.job.specs.Reading.{Field, bad, header, item, end, spanOf, reading}
 use Rattle.job.specs.Standing.{Tagged, Stands, Job}
-use Rattle.table.specs.Map.{recordsIn, Within}
+use Rattle.table.specs.Map.{recordsIn, Loaded, Within}
 use Rattle.closure.specs.Past.{Past}
 use Rattle.report.specs.Report.{Answers, Sound, laid}
 use Rattle.report.proofs.Fits.{roomFor}
@@ -24,6 +25,7 @@ itemsIn job = itemsOf (reading job)
 -- The job stands as N tags and its items, and the table holds the past of its records.
 pub record Asking (job w : List ℕ) (N len joins : ℕ) : Type 0 where
   pub stands : Job job N (itemsIn job)
+  pub short : length job ≤ 43008
   pub few : len ≡ length (recordsOf (itemsIn job))
   pub records : recordsIn len w ≡ recordsOf (itemsIn job)
   pub past : Past N len w joins
@@ -56,6 +58,19 @@ itemSaid (header n) = ask 0 0
 itemSaid (item i) = i
 itemSaid end = ask 0 0
 
+-- A field that is an item is met at a place.
+pub record Meeting (w room : List ℕ) (N len joins at out before : ℕ) (f : Field) : Type 0 where
+  pub place : at ≤ 43008
+  pub is : f ≡ item (itemSaid f)
+  pub facing : Facing w room N len joins before out (itemSaid f)
+
+-- The end field.
+abbrev pub isEnd : Field → Bool
+isEnd (bad n) = false
+isEnd (header n) = false
+isEnd (item i) = false
+isEnd end = true
+
 -- Midway through the job: the items from `at` on are still to be answered, and what stands at the front of the room makes a sound report of
 -- whatever is a sound report of them.
 pub record Midway (job w room : List ℕ) (N len joins at out before : ℕ) (w′ room′ : List ℕ) : Type 0 where
@@ -78,3 +93,20 @@ pub record Told (job w room : List ℕ) (N len joins : ℕ) (w′ room′ : List
   pub front : room′ ≡ laid 0 bytes room
   pub fits : end + 7 ≤ length room
   pub kept : Within 17003 31096 w w′
+
+-- An accepted job of N tags whose len records stand in the table's columns, and a room that is as large as needed.
+pub record Ready (job room w : List ℕ) (N len : ℕ) : Type 0 where
+  pub short : length job ≤ 43008
+  pub stands : Job job N (itemsIn job)
+  pub few : len ≡ length (recordsOf (itemsIn job))
+  pub loaded : Loaded N len w
+  pub records : recordsIn len w ≡ recordsOf (itemsIn job)
+  pub fits : neededRoom N 0 (itemsIn job) ≤ length room
+
+-- A sound report of the job, so many bytes long, stands at the front of the room, and every byte behind it is as it was.
+pub record Responded (job room w : List ℕ) (N : ℕ) (room′ w′ : List ℕ) (n : ℕ) : Type 0 where
+  pub bytes : List ℕ
+  pub sound : Sound N (recordsOf (itemsIn job)) 0 (itemsIn job) bytes
+  pub size : n ≡ length bytes
+  pub front : room′ ≡ bytes ++ drop (length bytes) room
+  pub kept : Within 12003 31096 w w′
