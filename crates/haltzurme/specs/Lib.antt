@@ -2,3 +2,4 @@ pub mod Run
 pub mod Look
 pub mod Alike
 pub mod Finish
+pub mod Recheck
