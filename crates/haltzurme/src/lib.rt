@@ -5,6 +5,7 @@ ghost use Prim.Native.Nat.{ℕ, _+_, _≤_, _<_};
 ghost use lib.ListN.{length};
 ghost use Rattle.haltzurme.specs.Run.{Wiped, Cleared, Lent, Ran};
 ghost use Rattle.haltzurme.specs.Finish.{Begun, Finished};
+ghost use Rattle.haltzurme.specs.Recheck.{Rechecked, Viewed, Opened, Weighed};
 ghost use Rattle.haltzurme.specs.Look.{Looked};
 use fill::take_in;
 use job::Answer as Read;
@@ -151,4 +152,86 @@ pub fn run(job: &[u8], room: &mut [u8], records: &mut [Record], work: &mut [u16]
         };
     }
     carry_out(job, room, records, work)
+}
+
+// What a recheck answers: document 01's number and its place.
+pub struct Finding {
+    pub number: u8,
+    pub place: usize,
+}
+
+// Numbers 3 to 8, in their order.
+fn view(job: &[u8]) -> Sight
+    ensures { λ r. ⌜ Viewed (now (job .entry)) (r .ready) (r .number) (r .place) (r .size) (r .records) ⌝ }
+{
+    match read_job(job) {
+        Read::Refused { fault, place } => Sight {
+            ready: false,
+            number: number_of(fault),
+            place,
+            size: 0,
+            records: 0,
+        },
+        Read::Accepted {
+            size,
+            records,
+            questions: _,
+            room: _,
+        } => Sight {
+            ready: true,
+            number: 0,
+            place: 0,
+            size: wide(size),
+            records: wide(records),
+        },
+    }
+}
+
+// The rest of a recheck, with no record table in sight.
+fn weigh(job: &[u8], report: &[u8], work: &mut [u16], s: Sight) -> Finding
+    requires { ⌜ Opened (now job) (now work) s ⌝ }
+    ensures { λ r. ⌜ Weighed (now (job .entry)) (now (report .entry)) (now (work .entry)) (r .number) (r .place) (now (work .exit)) ⌝ }
+{
+    clear(work);
+    Finding {
+        number: s.number,
+        place: s.place,
+    }
+}
+
+// A recheck whose job and tables are not at fault by their lengths.
+fn look_over(job: &[u8], report: &[u8], records: &mut [Record], work: &mut [u16]) -> Finding
+    requires { ⌜ Lent (now job) (now records) (now work) ⌝ }
+    ensures { λ r. ⌜ Rechecked (now (job .entry)) (now (report .entry)) (now (records .entry)) (now (work .entry)) (r .number) (r .place) (now (records .exit)) (now (work .exit)) ⌝ }
+{
+    let s = view(job);
+    take_in(job, records, work, s.records);
+    let out = weigh(job, report, work, s);
+    blank_out(records);
+    out
+}
+
+// Rechecks a report: it is sound, or where it is first at fault; and both tables are left zero in their named places.
+pub fn recheck(job: &[u8], report: &[u8], records: &mut [Record], work: &mut [u16]) -> Finding
+    ensures { λ r. ⌜ Rechecked (now (job .entry)) (now (report .entry)) (now (records .entry)) (now (work .entry)) (r .number) (r .place) (now (records .exit)) (now (work .exit)) ⌝ }
+{
+    if LONGEST < job.len() {
+        return Finding {
+            number: 1,
+            place: 0,
+        };
+    }
+    if records.len() < PLACES {
+        return Finding {
+            number: 2,
+            place: 0,
+        };
+    }
+    if work.len() < NAMED {
+        return Finding {
+            number: 2,
+            place: 0,
+        };
+    }
+    look_over(job, report, records, work)
 }
