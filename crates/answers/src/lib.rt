@@ -6,13 +6,14 @@ ghost use lib.ListN.{length};
 ghost use Rattle.job.specs.Items.{ask, neededRoom};
 ghost use Rattle.job.specs.Items.{explain as explains};
 ghost use Rattle.job.specs.Answer.{said};
-ghost use Rattle.answers.specs.Explaining.{Question, Explained};
 ghost use Rattle.answers.specs.Asking.{itemsIn, itemSaid, isEnd, Asking, Facing, Meeting, Answered, Stepped, Told, Ready, Responded};
 use closure::close;
 use job::Field;
 use job::read;
 use job::span;
 use meaning::Tag;
+use reasons::Answer;
+use reasons::explain;
 use reasons::meeting::age_after;
 use reasons::meeting::leader;
 use report::write_apart;
@@ -32,29 +33,6 @@ pub struct Spot {
     pub at: usize,
     pub out: usize,
     pub before: usize,
-}
-
-pub enum Answer {
-    Because(usize),
-    Apart,
-}
-
-pub fn explain(
-    work: &mut [u16],
-    size: usize,
-    len: usize,
-    joins: usize,
-    before: usize,
-    s: Tag,
-    t: Tag,
-) -> Answer
-    requires { ⌜ Question size len joins before (s .0) (t .0) (now work) ⌝ }
-    ensures { λ r. ⌜ Explained size len joins before (s .0) (t .0) (now (work .entry)) (now (work .exit)) r ⌝ }
-{
-    if s.0 == t.0 {
-        return Answer::Because(0);
-    }
-    Answer::Apart
 }
 
 // The leaders of two tags, as a field at a place of the room; the place behind it.

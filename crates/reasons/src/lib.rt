@@ -1,5 +1,8 @@
 // Reasons: for two tags that are equal by the records before a question, a list of record numbers that is a reason. Document 01,
 // "Reasons". Rests on closure, whose joins it follows and whose second call decides what a list entails, and on table.
+ghost use Prim.Native.Nat.{ℕ, _≤_, _<_};
+ghost use Rattle.reasons.specs.Explaining.{Question, Explained, Joining, Reasoned};
+use meaning::Tag;
 
 pub mod listing;
 pub mod meeting;
@@ -11,4 +14,50 @@ pub mod trimming;
 pub enum Answer {
     Because(usize),
     Apart,
+}
+
+// Writes a reason for two tags into the list, b being the newest join between them. Says how many numbers it has.
+fn reason(
+    work: &mut [u16],
+    size: usize,
+    len: usize,
+    joins: usize,
+    b: usize,
+    s: Tag,
+    t: Tag,
+) -> usize
+    requires { ⌜ Joining size len joins (s .0) (t .0) b (now work) ⌝ }
+    ensures { λ c. ⌜ Reasoned size len (s .0) (t .0) b (now (work .entry)) (now (work .exit)) c ⌝ }
+{
+    tracing::unmark_all(work, joins);
+    tracing::trace(work, s, t, b + 1);
+    let n = listing::list_marked(work, b + 1);
+    let kept = trimming::trim(work, size, len, n, s, t);
+    rising::put_rising(work, len, kept)
+}
+
+// Answers whether s and t are equal by the first `before` of the records, and why.
+pub fn explain(
+    work: &mut [u16],
+    size: usize,
+    len: usize,
+    joins: usize,
+    before: usize,
+    s: Tag,
+    t: Tag,
+) -> Answer
+    requires { ⌜ Question size len joins before (s .0) (t .0) (now work) ⌝ }
+    ensures { λ r. ⌜ Explained size len joins before (s .0) (t .0) (now (work .entry)) (now (work .exit)) r ⌝ }
+{
+    if s.0 == t.0 {
+        return Answer::Because(0);
+    }
+    let b = meeting::met(work, s, t);
+    if b >= joins {
+        return Answer::Apart;
+    }
+    if meeting::made(work, b) > before {
+        return Answer::Apart;
+    }
+    Answer::Because(reason(work, size, len, joins, b, s, t))
 }

@@ -1,0 +1,56 @@
+-- `reasons::reason` meets its contract: each step leaves what the next one asks, and the last leaves a reason.
+-- Assumes nothing.
+use borrow.Author.Needs.{needs}
+use native.Mathlib.Omega.{arith}
+use native.Mathlib.Numerals.{add-one}
+use Rattle.reasons.proofs.Whole.{asks-trace, asks-list, asks-trim, asks-rising, reasoned}
+use Rattle.reasons.proofs.reason.Statement.{statement}
+use Rattle.reasons.proofs.reason.Tie as tie
+use Rattle.reasons.proofs.reason.Reads as reads
+use Rattle.reasons.proofs.reason.Lts as lts
+use Rattle.reasons.proofs.listing.list_marked.Reads as list-marked-reads
+use Rattle.reasons.proofs.rising.put_rising.Reads as put-rising-reads
+use Rattle.reasons.proofs.tracing.trace.Reads as trace-reads
+use Rattle.reasons.proofs.tracing.unmark_all.Reads as unmark-all-reads
+use Rattle.reasons.proofs.trimming.trim.Reads as trim-reads
+
+unmark-all-requires : tie.Need-unmark-all-requires
+unmark-all-requires c κs = (c .before .before .pre .past .loaded .long, omega (arith, c .before .before .pre .past .low, c .before .before .pre .past .loaded .few))
+
+add-trace : tie.Need-add-trace
+add-trace c = search needs
+
+trace-requires : tie.Need-trace-requires
+trace-requires c κs = rw add-one (asks-trace (c .before .before .before .before .before .before .pre) (c .before .before .before .unmark-all .ensures))
+
+add-list-marked : tie.Need-add-list-marked
+add-list-marked c = search needs
+
+list-marked-requires : tie.Need-list-marked-requires
+list-marked-requires c κs = rw add-one (asks-list (c .before .before .before .before .before .before .before .before .before .before .pre) (c .before .before .before .before .before .before .before .unmark-all .ensures) (rw add-one at (c .before .before .before .trace .ensures)))
+
+trim-requires : tie.Need-trim-requires
+trim-requires c κs = asks-trim (c .before .before .before .before .before .before .before .before .before .before .before .before .before .before .pre) (c .before .before .before .before .before .before .before .before .before .before .before .unmark-all .ensures) (rw add-one at (c .before .before .before .before .before .before .before .trace .ensures)) (rw add-one at (c .before .before .before .list-marked .ensures))
+
+put-rising-requires : tie.Need-put-rising-requires
+put-rising-requires c κs = asks-rising (c .before .before .before .before .before .before .before .before .before .before .before .before .before .before .before .before .before .before .pre) (c .before .before .before .before .before .before .before .before .before .before .before .before .before .before .before .unmark-all .ensures) (rw add-one at (c .before .before .before .before .before .before .before .before .before .before .before .trace .ensures)) (rw add-one at (c .before .before .before .before .before .before .before .list-marked .ensures)) (c .before .before .before .trim .ensures)
+
+returns : tie.Need-returns
+returns c = reasoned (c .before .before .before .before .before .before .before .before .before .before .before .before .before .before .before .before .before .before .before .before .before .pre) (c .before .before .before .before .before .before .before .before .before .before .before .before .before .before .before .before .before .before .unmark-all .ensures) (rw add-one at (c .before .before .before .before .before .before .before .before .before .before .before .before .before .before .trace .ensures)) (rw add-one at (c .before .before .before .before .before .before .before .before .before .before .list-marked .ensures)) (c .before .before .before .before .before .before .trim .ensures) (c .before .before .put-rising .ensures)
+
+same-length : tie.Need-same-length
+same-length c = returns c .kept .size
+
+pub reason-spec : {M : Type 1} → statement M
+reason-spec =
+    tie.close
+    (tie.spec
+    unmark-all-requires
+    add-trace
+    trace-requires
+    add-list-marked
+    list-marked-requires
+    trim-requires
+    put-rising-requires
+    same-length
+    returns)

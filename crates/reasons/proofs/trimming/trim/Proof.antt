@@ -1,0 +1,54 @@
+-- `reasons::trimming::trim` meets its contract: each turn tries one more.
+-- Assumes nothing.
+use borrow.Author.Needs.{needs}
+use Prim.Native.Nat.{_≤_, _-_}
+use native.Mathlib.Omega.{arith}
+use native.Mathlib.Numerals.{add-one}
+use mathlib.Core.Path.{_≡_}
+use Rattle.reasons.proofs.Sparing.{Pruning, pruning-start, pruning-more, pruning-end}
+use Rattle.reasons.proofs.trimming.trim.Statement.{statement}
+use Rattle.reasons.proofs.trimming.trim.Tie as tie
+use Rattle.reasons.proofs.trimming.trim.Reads as reads
+use Rattle.reasons.proofs.trimming.trim.Lts as lts
+use Rattle.reasons.proofs.trimming.try_one.Reads as try-one-reads
+
+abbrev Inv-loop : tie.InvT-loop
+Inv-loop work₀ size len n s t kept₀ i₀ work kept i = Pruning size len (s .0) (t .0) work₀ work n kept i
+
+abbrev μ-loop : tie.MeasureT-loop
+μ-loop work₀ size len n s t kept₀ i₀ work kept i = n - i
+
+loop-holds : tie.Need-loop-holds Inv-loop μ-loop
+loop-holds c = pruning-start (c .before .pre)
+
+try-one-requires : tie.Need-try-one-requires Inv-loop μ-loop
+try-one-requires c κs = (c .before .before .loop .inv .trying, c .before .loop-test .taken)
+
+add-i : tie.Need-add-i Inv-loop μ-loop
+add-i c = search needs
+
+loop-less : tie.Need-loop-less Inv-loop μ-loop
+loop-less c = search needs
+
+loop-again : tie.Need-loop-again Inv-loop μ-loop
+loop-again c = rw add-one (pruning-more (c .before .before .before .before .before .loop .inv) (c .before .before .try-one .ensures))
+
+same-length : tie.Need-same-length Inv-loop μ-loop
+same-length c = c .before .loop .inv .kept-in .size
+
+returns : tie.Need-returns Inv-loop μ-loop
+returns c = let q : c .before .before .before .args .n ≡ c .before .loop .i = omega (arith, c .before .loop .inv .trying .on) in pruning-end (rw (← q) at (c .before .loop .inv))
+
+pub trim-spec : {M : Type 1} → statement M
+trim-spec =
+    tie.close
+    (tie.spec
+    Inv-loop
+    μ-loop
+    loop-holds
+    try-one-requires
+    add-i
+    loop-less
+    loop-again
+    same-length
+    returns)
