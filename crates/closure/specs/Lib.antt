@@ -1,2 +1,4 @@
 pub mod Past
 pub mod Closing
+pub mod Chain
+pub mod State

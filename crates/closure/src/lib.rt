@@ -1,1 +1,387 @@
-// The closure.
+// The closure of records over the lent work table: labels that are the leaders, joins one at a time. Document 01, "Tags, records, following" and
+// "Reasons". Rests on meaning (what follows, the log of joins, the forest of links) and table (where things stand).
+//
+// One engine closes the records whose numbers stand in the list, place after place, and again until a pass joins nothing. While it runs, a tag's
+// label is the smallest tag of its class; a join relabels the larger label to the smaller. Applications are found by their arguments' labels in a
+// chained hash table whose links only fall. `close` closes records 1, 2, 3, .. one at a time and keeps each join; `entails` closes
+// a given list and keeps nothing.
+ghost use mathlib.Core.Path.{_≡_};
+ghost use mathlib.Core.List.{map};
+ghost use Prim.Native.Nat.{ℕ, _+_, _*_, _≤_, _<_};
+ghost use lib.ListN.{length, getD, set};
+ghost use mathlib.Core.Bool.{true, false};
+ghost use Rattle.meaning.specs.Labels.{into};
+ghost use Rattle.table.specs.Map.{nextOf, headOf, Loaded};
+ghost use Rattle.closure.specs.Chain.{seekTo, hits};
+ghost use Rattle.closure.specs.State.{Fills, CountsUp, Relabelled, Fresh, Cleared, Unlinked, Enlisted, noted, keyIn, keyOf, eqnOf, Readable, Seeking, Joining, Joined, Stepping, Stepped, Unifying, State, Passed, Rested, Between, Admitted, Begun};
+ghost use Rattle.closure.specs.Closing.{Listed, Closing, Entailing};
+use meaning::RecordNo;
+use meaning::Tag;
+use table::AGE;
+use table::FIRST;
+use table::LABEL;
+use table::LEADS;
+use table::LIST;
+use table::MARKS;
+use table::NEXT;
+
+// What a run of the closure made: its joins, and the records that made none.
+pub struct Totals {
+    pub joins: usize,
+    pub idle: usize,
+}
+
+// What is closed: the list's first `places` records, of those 1 to `len` that the table holds of `size` tags. Joins are kept if `keep` says so, as
+// made at record number `places`.
+struct Task {
+    size: usize,
+    len: usize,
+    places: usize,
+    keep: bool,
+}
+
+// The number of buckets.
+const BUCKETS: usize = 4093;
+
+fn wide(x: u16) -> usize
+    ensures { λ r. ⌜ r ≡ x ⌝ }
+{
+    x as usize
+}
+
+// Every number becomes v.
+fn fill(part: &mut [u16], v: u16)
+    ensures { λ _. ⌜ Fills (now (part .exit)) v ⌝ }
+{
+    let mut i = 0;
+    while i < part.len() {
+        part[i] = v;
+        i += 1;
+    }
+}
+
+// The numbers become from, from + 1, ..
+fn count_up(part: &mut [u16], from: usize)
+    requires { ⌜ from + length (now part) ≤ 65535 ⌝ }
+    ensures { λ _. ⌜ CountsUp (now (part .exit)) from ⌝ }
+{
+    let mut i = 0;
+    while i < part.len() {
+        part[i] = (from + i) as u16;
+        i += 1;
+    }
+}
+
+// Every hi becomes lo. Written as a choice of values, so that it is compiled to vector code.
+fn relabel(part: &mut [u16], hi: u16, lo: u16)
+    ensures { λ _. ⌜ now (part .exit) ≡ map (into lo hi) (now (part .entry)) ⌝ }
+{
+    let mut i = 0;
+    while i < part.len() {
+        let v = part[i];
+        let w = if v == hi { lo } else { v };
+        part[i] = w;
+        i += 1;
+    }
+}
+
+// The label hi becomes lo for every tag.
+fn merge(work: &mut [u16], lo: Tag, hi: Tag)
+    requires { ⌜ (32768 ≤ length (now work)) × (hi .0 < 1000) ⌝ }
+    ensures { λ _. ⌜ Relabelled (now (work .entry)) (now (work .exit)) (lo .0) (hi .0) ⌝ }
+{
+    relabel(&mut work[LABEL..NEXT], hi.0, lo.0);
+}
+
+// The join of age `joins` is kept: it linked hi under lo, its records are two, and it was made at a third.
+fn note(
+    work: &mut [u16],
+    joins: usize,
+    first: RecordNo,
+    second: RecordNo,
+    when: RecordNo,
+    lo: Tag,
+    hi: Tag,
+)
+    requires { ⌜ (32768 ≤ length (now work)) × (hi .0 < 1000) × (joins < 1000) ⌝ }
+    ensures { λ _. ⌜ now (work .exit) ≡ noted (now (work .entry)) (lo .0) (hi .0) joins (first .0) (second .0) (when .0) ⌝ }
+{
+    table::put_link(work, hi, lo, joins);
+    table::put_join(work, joins, first, second, when);
+}
+
+// Each tag is its own label.
+fn fresh(work: &mut [u16])
+    requires { ⌜ 32768 ≤ length (now work) ⌝ }
+    ensures { λ _. ⌜ Fresh (now (work .entry)) (now (work .exit)) ⌝ }
+{
+    count_up(&mut work[LABEL..NEXT], 0);
+}
+
+// No place stands in a chain.
+fn clear(work: &mut [u16])
+    requires { ⌜ 32768 ≤ length (now work) ⌝ }
+    ensures { λ _. ⌜ Cleared (now (work .entry)) (now (work .exit)) ⌝ }
+{
+    fill(&mut work[NEXT..MARKS], 0);
+}
+
+// No tag is linked.
+fn unlink(work: &mut [u16])
+    requires { ⌜ 32768 ≤ length (now work) ⌝ }
+    ensures { λ _. ⌜ Unlinked (now (work .entry)) (now (work .exit)) ⌝ }
+{
+    fill(&mut work[AGE..FIRST], LEADS);
+}
+
+// The list names records 1, 2, 3, ..
+fn enlist(work: &mut [u16])
+    requires { ⌜ 32768 ≤ length (now work) ⌝ }
+    ensures { λ _. ⌜ Enlisted (now (work .entry)) (now (work .exit)) ⌝ }
+{
+    count_up(&mut work[LIST..LABEL], 1);
+}
+
+// The class labelled hi goes to that labelled lo, by a join that is kept if the task says so.
+fn unite(
+    work: &mut [u16],
+    task: Task,
+    joins: usize,
+    first: RecordNo,
+    second: RecordNo,
+    lo: Tag,
+    hi: Tag,
+)
+    requires { ⌜ Joining task (now work) joins (first .0) (second .0) (lo .0) (hi .0) × (lo .0 < hi .0) ⌝ }
+    ensures { λ _. ⌜ Joined task (now (work .entry)) (now (work .exit)) joins ⌝ }
+{
+    merge(work, lo, hi);
+    if task.keep {
+        let n = task.places;
+        note(work, joins, first, second, RecordNo(n as u16), lo, hi);
+    }
+}
+
+// The classes labelled a and b become one: the smaller label stands for both.
+fn join(
+    work: &mut [u16],
+    task: Task,
+    joins: usize,
+    first: RecordNo,
+    second: RecordNo,
+    a: Tag,
+    b: Tag,
+)
+    requires { ⌜ Joining task (now work) joins (first .0) (second .0) (a .0) (b .0) ⌝ }
+    ensures { λ _. ⌜ Joined task (now (work .entry)) (now (work .exit)) joins ⌝ }
+{
+    if a.0 < b.0 {
+        unite(work, task, joins, first, second, a, b);
+    } else {
+        unite(work, task, joins, first, second, b, a);
+    }
+}
+
+// Both argument labels of a record as one number.
+fn key(work: &[u16], r: RecordNo) -> usize
+    requires { ⌜ Readable (now work) (r .0) ⌝ }
+    ensures { λ x. ⌜ x ≡ keyIn (now (work .entry)) (r .0) ⌝ }
+{
+    let a = table::left(work, r);
+    let b = table::right(work, r);
+    let x = table::label(work, a);
+    let y = table::label(work, b);
+    wide(x.0) * 65536 + wide(y.0)
+}
+
+// The first link of a chain whose record has the key x, or 0.
+fn seek(work: &[u16], task: Task, from: usize, x: usize) -> usize
+    requires { ⌜ Seeking task (now work) from ⌝ }
+    ensures { λ r. ⌜ r ≡ seekTo (nextOf (now (work .entry))) (hits (keyOf (now (work .entry))) x) from ⌝ }
+{
+    let mut p = from;
+    while p != 0 {
+        let r = table::listed(work, p - 1);
+        if key(work, r) == x {
+            return p;
+        }
+        p = table::next(work, p - 1);
+    }
+    0
+}
+
+// Place i goes to the head of a bucket's chain.
+fn insert(work: &mut [u16], b: usize, i: usize)
+    requires { ⌜ (32768 ≤ length (now work)) × (b < 4093) × (i < 4000) × (headOf (now work) b ≤ 4000) ⌝ }
+    ensures { λ _. ⌜ now (work .exit) ≡ set (set (now (work .entry)) (22003 + i) (headOf (now (work .entry)) b)) (26003 + b) (i + 1) ⌝ }
+{
+    let old = table::head(work, b);
+    table::put_next(work, i, old);
+    table::put_head(work, b, i + 1);
+}
+
+// The equation at place i is met: its two tags are joined unless they have one label.
+fn equate(work: &mut [u16], task: Task, i: usize, joins: usize) -> usize
+    requires { ⌜ Stepping task (now work) i joins × (eqnOf (now work) i ≡ true) ⌝ }
+    ensures { λ r. ⌜ Stepped task (now (work .entry)) i joins (now (work .exit)) r ⌝ }
+{
+    let r = table::listed(work, i);
+    let s = table::left(work, r);
+    let t = table::right(work, r);
+    let a = table::label(work, s);
+    let b = table::label(work, t);
+    if a.0 == b.0 {
+        return joins;
+    }
+    join(work, task, joins, r, RecordNo(0), a, b);
+    joins + 1
+}
+
+// The application at place i meets the one that the link p leads to: their results are joined unless they have one label.
+fn unify(work: &mut [u16], task: Task, p: usize, i: usize, joins: usize) -> usize
+    requires { ⌜ Unifying task (now work) p i joins ⌝ }
+    ensures { λ r. ⌜ Stepped task (now (work .entry)) i joins (now (work .exit)) r ⌝ }
+{
+    let q = table::listed(work, p - 1);
+    let r = table::listed(work, i);
+    let s = table::result(work, q);
+    let t = table::result(work, r);
+    let a = table::label(work, s);
+    let b = table::label(work, t);
+    if a.0 == b.0 {
+        return joins;
+    }
+    join(work, task, joins, q, r, a, b);
+    joins + 1
+}
+
+// The application at place i is met: it is looked up by its arguments' labels, and goes into the table where none is found.
+fn apply(work: &mut [u16], task: Task, i: usize, joins: usize) -> usize
+    requires { ⌜ Stepping task (now work) i joins × (eqnOf (now work) i ≡ false) ⌝ }
+    ensures { λ r. ⌜ Stepped task (now (work .entry)) i joins (now (work .exit)) r ⌝ }
+{
+    let r = table::listed(work, i);
+    let x = key(work, r);
+    let b = x % BUCKETS;
+    let from = table::head(work, b);
+    let p = seek(work, task, from, x);
+    if p == 0 {
+        insert(work, b, i);
+        return joins;
+    }
+    unify(work, task, p, i, joins)
+}
+
+// The record at place i is met. The number of joins after it.
+fn step(work: &mut [u16], task: Task, i: usize, joins: usize) -> usize
+    requires { ⌜ Stepping task (now work) i joins ⌝ }
+    ensures { λ r. ⌜ Stepped task (now (work .entry)) i joins (now (work .exit)) r ⌝ }
+{
+    let r = table::listed(work, i);
+    if table::is_equation(work, r) {
+        equate(work, task, i, joins)
+    } else {
+        apply(work, task, i, joins)
+    }
+}
+
+// All places once, in order, with an empty table of chains; it goes on after a join.
+fn pass(work: &mut [u16], task: Task, joins: usize) -> usize
+    requires { ⌜ State task (now work) joins ⌝ }
+    ensures { λ r. ⌜ Passed task (now (work .entry)) joins (task .places) (now (work .exit)) r ⌝ }
+{
+    clear(work);
+    let n = task.places;
+    let mut made = joins;
+    let mut i = 0;
+    while i < n {
+        made = step(work, task, i, made);
+        i += 1;
+    }
+    made
+}
+
+// Passes, until one joins nothing.
+fn settle(work: &mut [u16], task: Task, joins: usize) -> usize
+    requires { ⌜ State task (now work) joins ⌝ }
+    ensures { λ r. ⌜ Rested task (now (work .entry)) joins (now (work .exit)) r ⌝ }
+{
+    let mut made = joins;
+    loop {
+        let after = pass(work, task, made);
+        if after == made {
+            return after;
+        }
+        made = after;
+    }
+}
+
+// Record number i + 1 comes in, where the records before it are closed. The number of joins after it.
+fn admit(work: &mut [u16], size: usize, len: usize, i: usize, joins: usize) -> usize
+    requires { ⌜ Between size len i (now work) joins × (i < len) ⌝ }
+    ensures { λ r. ⌜ Admitted size len i (now (work .entry)) joins (now (work .exit)) r ⌝ }
+{
+    let task = Task {
+        size: size,
+        len: len,
+        places: i + 1,
+        keep: true,
+    };
+    let after = step(work, task, i, joins);
+    if after == joins {
+        return joins;
+    }
+    settle(work, task, after)
+}
+
+// The work of `close` begins: records 1, 2, 3, .. in the list, no tag linked, each its own label, no chains.
+fn begin(work: &mut [u16])
+    requires { ⌜ 32768 ≤ length (now work) ⌝ }
+    ensures { λ _. ⌜ Begun (now (work .entry)) (now (work .exit)) ⌝ }
+{
+    unlink(work);
+    enlist(work);
+    fresh(work);
+    clear(work);
+}
+
+// Closes records 1 to len of `size` tags, one after the other, and keeps the joins.
+pub fn close(work: &mut [u16], size: usize, len: usize) -> Totals
+    requires { ⌜ Loaded size len (now work) ⌝ }
+    ensures { λ r. ⌜ Closing size len (now (work .entry)) (now (work .exit)) (r .joins) (r .idle) ⌝ }
+{
+    begin(work);
+    let mut joins = 0;
+    let mut idle = 0;
+    let mut i = 0;
+    while i < len {
+        let after = admit(work, size, len, i, joins);
+        if after == joins {
+            idle += 1;
+        }
+        joins = after;
+        i += 1;
+    }
+    Totals {
+        joins: joins,
+        idle: idle,
+    }
+}
+
+// Whether s and t are equal by exactly the records that the list's first n numbers name.
+pub fn entails(work: &mut [u16], size: usize, len: usize, n: usize, s: Tag, t: Tag) -> bool
+    requires { ⌜ Listed size len n (now work) × (s .0 < size) × (t .0 < size) ⌝ }
+    ensures { λ r. ⌜ Entailing size len n (s .0) (t .0) (now (work .entry)) (now (work .exit)) r ⌝ }
+{
+    fresh(work);
+    let task = Task {
+        size: size,
+        len: len,
+        places: n,
+        keep: false,
+    };
+    settle(work, task, 0);
+    let a = table::label(work, s);
+    let b = table::label(work, t);
+    a.0 == b.0
+}

@@ -1,0 +1,230 @@
+-- Between two records the labels are closed under the records so far, so this moment is settled and can be kept; the next record only adds to the list.
+-- The number of classes is N less the joins, so a record is idle exactly where it made no join.
+-- Assumes nothing.
+use Prim.Native.Nat.{ℕ, zero, suc, _+_, _-_, _≤_, _<_}
+use native.Mathlib.Omega.{arith}
+use native.Mathlib.Numerals.{add-one}
+use native.Mathlib.Decide.{ℕ-discrete, decLt}
+use mathlib.Core.Path.{_≡_, refl, sym, ap, _∙_, fun-ext}
+use mathlib.Core.Logic.{_≢_, _↔_, _⊎_, inl, inr}
+use mathlib.Core.Bool.{Bool, true, false, cond}
+use mathlib.Core.List.{List, [], _∷_, List·Memᴰ, List·Memᴰ·not-nil, Memᴰ·append-left}
+use lib.Dec.{T, eqb, leb}
+use borrow.Author.Tests.{eq-eqb, eqb-true, le-leb}
+use lib.ListN.{length}
+use Rattle.meaning.specs.Following.{Rec, At, Follows, same, flip, chain, Those, UpTo, Only}
+use Rattle.meaning.specs.Joins.{Join, all, used, count}
+use Rattle.meaning.specs.Labels.{Labels, classes}
+use Rattle.meaning.specs.Forest.{root, History}
+use Rattle.meaning.specs.Totals.{Count, one, skip, Classes, Idle, Idles}
+use Rattle.meaning.proofs.Close.{more-of, Closed, complete}
+use Rattle.meaning.proofs.Relabel.{start-classes}
+use Rattle.meaning.proofs.Short.{some-class}
+use Rattle.meaning.proofs.Forest.{root-stop, root-labels, history-start}
+use Rattle.meaning.proofs.Exact.{Settled, settled-classes, idle-iff}
+use Rattle.table.specs.Map.{seen, parentOf, ageOf, whenOf, listOf, labelOf, nextOf, headOf, gather, joinAt, recAt, recordsIn, listIn, Loaded, Within}
+use Rattle.table.proofs.Frame.{seen-within, within-trans, within-wider, length-gather, gather-in, in-gather}
+use Rattle.closure.specs.Past.{ageAfter, leaderAfter, Past}
+use Rattle.closure.specs.Closing.{Closing, Listed, Entailing}
+use Rattle.closure.specs.declared.Task.{Task}
+use Rattle.closure.specs.State.{Logged, State, Kept, Chained, Valid, Stepping, Stepped, Rested, Fresh, Begun, whole, Between, Admitted, eqnOf, keyOf, resOf}
+use Rattle.closure.proofs.Chain.{chains-none, filled-none}
+use Rattle.closure.proofs.Rows.{valid-closed}
+use Rattle.closure.proofs.Views.{loaded-same, records-same, listed-same, lefts, rights, results}
+use Rattle.closure.proofs.Steps.{kept-trans}
+
+-- Each tag its own label: no class is joined.
+fresh-labels : {f : ℕ → ℕ} → f ≡ (λ x. x) → Labels f
+fresh-labels e = rw e (record { low = λ x. omega arith; flat = λ x. refl })
+
+fresh-total : {f : ℕ → ℕ} (N : ℕ) → f ≡ (λ x. x) → 0 + classes f N ≡ N
+fresh-total N e = rw e (omega (arith, start-classes N))
+
+pub between-start : {N len : ℕ} {w w′ : List ℕ} → Loaded N len w → Begun w w′ → Between N len 0 w′ 0
+between-start {N} {len} {w} {w′} h b = record {
+  state = record {
+    listed = record { loaded = loaded-same (b .frame) h; short = omega arith; named = λ i l. absurd (omega arith) };
+    labels = fresh-labels (fun-ext (b .labels));
+    sound = λ x. rw (b .labels x) same;
+    total = fresh-total N (fun-ext (b .labels));
+    log = λ k. record {
+      history = history;
+      justified = λ a l. absurd (omega arith);
+      within = λ k i. absurd (List·Memᴰ·not-nil i);
+      roots = λ x. root-stop (parentOf w′) (ageOf w′) 1000 0 (history .links) 0 (omega arith) (omega arith) x (omega arith) ∙ sym (b .labels x);
+      made = λ a l. absurd (omega arith);
+      order = λ a c l k. absurd (omega arith);
+      moments = λ k l. absurd (omega arith);
+    };
+  };
+  chains = chains-none (eqnOf w′) (headOf w′) (nextOf w′) (b .heads) (b .nexts);
+  valid = record { filled = filled-none (eqnOf w′) (keyOf w′) (resOf w′) (headOf w′) (nextOf w′); equal = λ j l. absurd (omega arith) };
+  listed = b .listed;
+}
+  where
+    history : History (joinAt w′) 0 (parentOf w′) (ageOf w′) 1000
+    history = history-start (joinAt w′) (parentOf w′) (ageOf w′) 1000 (λ x. omega (arith, b .ages x))
+
+count-all : (p : ℕ → Bool) (n : ℕ) → ((a : ℕ) → a < n → p a ≡ true) → count p n ≡ n
+count-all p zero h = refl
+count-all p (suc n) h = rw (h n (omega arith), count-all p n (λ a l. h a (omega arith)))
+
+closed-less : {S S′ : Rec → Type 0} {f : ℕ → ℕ} → ((r : Rec) → S′ r → S r) → Closed S f → Closed S′ f
+closed-less h c = record { equal = λ i. c .equal (h _ i); apart = λ i j. c .apart (h _ i) (h _ j) }
+
+module _ {N len i : ℕ} {w : List ℕ} {n : ℕ} (b : Between N len i w n) (low : i ≤ len) where
+  log : Logged (recordsIn len w) (listIn i w) i (labelOf w) (parentOf w) (ageOf w) (joinAt w) (whenOf w) n
+  log = b .state .log tt
+
+  roots : root (parentOf w) (ageOf w) n ≡ labelOf w
+  roots = fun-ext (log .roots)
+
+  age-now : ageAfter w n i ≡ n
+  age-now = count-all (λ a. leb (whenOf w a) i) n (λ a l. le-leb (whenOf w a) i (log .made a l .1))
+
+  number-in : (r : Rec) → Those (recordsIn len w) (λ m. m ≤ i) r → Only (recordsIn len w) (listIn i w) r
+  number-in r h =
+      let p = h .2 .place in
+      let q : listOf w p ≡ h .0 = b .listed p (omega (arith, h .1, h .2 .number, b .state .listed .short)) ∙ sym (h .2 .number) in
+      let m = gather-in (listOf w) i p (omega (arith, h .1, h .2 .number)) in
+      (h .0, rw q at m, h .2)
+
+  in-number : (k : ℕ) → List·Memᴰ k (listIn i w) → k ≤ i
+  in-number k m = let g = in-gather (listOf w) i k m in omega (arith, g .1, g .2, b .listed (g .0) (omega (arith, g .1, b .state .listed .short)))
+
+  settled : (a : ℕ) → a ≡ n → Settled (recordsIn len w) (λ m. m ≤ i) (joinAt w) a (root (parentOf w) (ageOf w) a)
+  settled a e = rw e (record {
+    labels = root-labels (parentOf w) (ageOf w) 1000 n (log .history .links) n (omega arith) (log .history .room);
+    agree = log .history .then n (omega arith);
+    sound = log .justified;
+    within = λ k m. in-number k (log .within k m);
+    closed = rw roots (closed-less number-in (valid-closed (b .state .listed) (b .valid)));
+  })
+
+  pub moment-now : Settled (recordsIn len w) (λ m. m ≤ i) (joinAt w) (ageAfter w n i) (leaderAfter w n i)
+  moment-now = settled (ageAfter w n i) age-now
+
+  leader-now : leaderAfter w n i ≡ labelOf w
+  leader-now = ap (root (parentOf w) (ageOf w)) age-now ∙ roots
+
+  pub classes-now : Classes N (UpTo (recordsIn len w) i) (N - n)
+  classes-now =
+      let e : classes (labelOf w) N ≡ N - n = omega (arith, b .state .total) in
+      rw (← e, ← leader-now) (settled-classes moment-now N)
+
+  -- The moments up to this one.
+  pub moments-now : (k : ℕ) → k ≤ i → Settled (recordsIn len w) (λ m. m ≤ k) (joinAt w) (ageAfter w n k) (leaderAfter w n k)
+  moments-now k l = elim (ℕ-discrete k i) [ yes q ↦ rw q moment-now | no q ↦ log .moments k (omega arith) ]
+
+  pub low-now : n < N
+  low-now = omega (arith, b .state .total, some-class N (labelOf w) (b .state .labels) (b .state .listed .loaded .some))
+
+-- The next record is listed.
+pub state-next : {N len i : ℕ} {w : List ℕ} {n : ℕ} → Between N len i w n → i < len → State (whole N len (suc i)) w n
+state-next {N} {len} {i} {w} {n} b low = record {
+  listed = record {
+    loaded = b .state .listed .loaded;
+    short = omega (arith, b .state .listed .loaded .most);
+    named = λ j l. let q = b .listed j (omega (arith, b .state .listed .loaded .most)) in (omega arith, omega arith);
+  };
+  labels = b .state .labels;
+  sound = λ x. more-of (λ k m. Memᴰ·append-left (listOf w i ∷ []) m) (b .state .sound x);
+  total = b .state .total;
+  log = λ y. let g = b .state .log tt in record {
+    history = g .history;
+    justified = g .justified;
+    within = λ k m. Memᴰ·append-left (listOf w i ∷ []) (g .within k m);
+    roots = g .roots;
+    made = λ a l. (g .made a l .0, omega (arith, g .made a l .1));
+    order = g .order;
+    moments = λ k l. moments-now b (omega arith) k (omega arith);
+  };
+}
+
+pub stepping-next : {N len i : ℕ} {w : List ℕ} {n : ℕ} → Between N len i w n → i < len → Stepping (whole N len (i + 1)) w i n
+stepping-next b low = rw add-one (record { state = state-next b low; chains = b .chains; place = omega arith })
+
+-- A record was admitted: with no join, or with some and then settled.
+pub admit-quiet : {N len i : ℕ} {w w′ : List ℕ} {n n′ : ℕ} → Between N len i w n → Stepped (whole N len (i + 1)) w i n w′ n′ → n′ ≡ n → Admitted N len i w n w′ n
+admit-quiet {N} {len} {i} {w} {w′} b s e = record {
+  between = record { state = rw (e, add-one) at (s .state); chains = s .chains; valid = s .valid e (b .valid); listed = rw (s .kept .list) (b .listed) };
+  kept = s .kept;
+  more = omega arith;
+}
+
+pub admit-settled : {N len i : ℕ} {w w′ w″ : List ℕ} {n n′ n″ : ℕ} → Between N len i w n → Stepped (whole N len (i + 1)) w i n w′ n′ → Rested (whole N len (i + 1)) w′ n′ w″ n″ → Admitted N len i w n w″ n″
+admit-settled b s r = record {
+  between = record { state = rw add-one at (r .state); chains = rw add-one at (r .chains); valid = rw add-one at (r .valid); listed = rw (r .kept .list, s .kept .list) (b .listed) };
+  kept = kept-trans (s .kept) (r .kept);
+  more = omega (arith, s .more, r .more);
+}
+
+-- The idle records so far.
+module _ {N len i : ℕ} {w w′ : List ℕ} {n n′ idle : ℕ} (b : Between N len i w n) (low : i < len) (a : Admitted N len i w n w′ n′) (c : Count (Idle N (recordsIn len w)) i idle) where
+  iff : Idle N (recordsIn len w′) i ↔ (N - n ≡ N - n′)
+  iff = idle-iff (rw (records-same (a .kept .frame) len) (classes-now b (omega arith))) (classes-now (a .between) low)
+
+  kept-count : Count (Idle N (recordsIn len w′)) i idle
+  kept-count = rw (records-same (a .kept .frame) len) c
+
+  pub idle-more : n′ ≡ n → Count (Idle N (recordsIn len w′)) (suc i) (suc idle)
+  idle-more e = one (iff .1 (omega arith)) kept-count
+
+  pub idle-same : n′ ≢ n → Count (Idle N (recordsIn len w′)) (suc i) idle
+  idle-same d = skip (λ h. d (let q = iff .0 h in omega (arith, low-now b (omega arith), low-now (a .between) low))) kept-count
+
+  pub idle-turn : (idle′ : ℕ) → ((n′ ≡ n) × (idle′ ≡ idle + 1)) ⊎ ((n′ ≢ n) × (idle′ ≡ idle)) → Count (Idle N (recordsIn len w′)) (i + 1) idle′
+  idle-turn idle′ (inl h) = rw (h .1, add-one, add-one) (idle-more (h .0))
+  idle-turn idle′ (inr h) = rw (h .1, add-one) (idle-same (h .0))
+
+pub close-done : {N len : ℕ} {w w′ : List ℕ} {n idle : ℕ} → Within 12003 30096 w w′ → Between N len len w′ n → Count (Idle N (recordsIn len w′)) len idle → Closing N len w w′ n idle
+close-done {N} {len} {w} {w′} f b c = let g = b .state .log tt in record {
+  kept = f;
+  past = record {
+    loaded = b .state .listed .loaded;
+    low = low-now b (omega arith);
+    history = g .history;
+    justified = g .justified;
+    made = g .made;
+    order = g .order;
+    moments = moments-now b (omega arith);
+  };
+  classes = classes-now b (omega arith);
+  idles = rw (length-gather (λ k. recAt w′ (suc k)) len) c;
+}
+
+-- A list on its own.
+abbrev pub apart : ℕ → ℕ → ℕ → Task
+apart N len n = record { size = N; len = len; places = n; keep = false }
+
+pub entails-start : {N len n : ℕ} {w w′ : List ℕ} → Listed N len n w → Fresh w w′ → State (apart N len n) w′ 0
+entails-start {N} {len} {n} {w} {w′} h f = record {
+  listed = listed-same (within-wider 12003 30096 (omega arith) (omega arith) (f .frame)) (seen-within 17003 4000 (λ x. 0) (f .frame) (inl (omega arith))) h;
+  labels = fresh-labels (fun-ext (f .labels));
+  sound = λ x. rw (f .labels x) same;
+  total = fresh-total N (fun-ext (f .labels));
+  log = λ y. absurd y;
+}
+
+pub entails-done : {N len n s t : ℕ} {w w′ w″ : List ℕ} {j : ℕ} {a b : ℕ} → Fresh w w′ → Rested (apart N len n) w′ 0 w″ j → a ≡ labelOf w″ s → b ≡ labelOf w″ t → Entailing N len n s t w w″ (eqb a b)
+entails-done {N} {len} {n} {s} {t} {w} {w′} {w″} {j} {a} {b} f r ea eb = record {
+  kept = frame;
+  exact = rw (← records-same wide len, ← lists) (there, back);
+}
+  where
+    frame : Within 21003 30096 w w″
+    frame = within-trans (within-wider 21003 30096 (omega arith) (omega arith) (f .frame)) (r .kept .frame)
+
+    wide : Within 12003 30096 w w″
+    wide = within-wider 12003 30096 (omega arith) (omega arith) frame
+
+    lists : listIn n w″ ≡ listIn n w
+    lists = ap (λ (g : ℕ → ℕ). gather g n) (seen-within 17003 4000 (λ x. 0) frame (inl (omega arith)))
+
+    there : eqb a b ≡ true → Follows (Only (recordsIn len w″) (listIn n w″)) s t
+    there e = let q : labelOf w″ s ≡ labelOf w″ t = sym ea ∙ eqb-true a b e ∙ eb in
+        let z : Follows (Only (recordsIn len w″) (listIn n w″)) (labelOf w″ s) t = rw q (flip (r .state .sound t)) in
+        chain (r .state .sound s) z
+
+    back : Follows (Only (recordsIn len w″) (listIn n w″)) s t → eqb a b ≡ true
+    back h = eq-eqb a b (ea ∙ complete (valid-closed (r .state .listed) (r .valid)) h ∙ sym eb)

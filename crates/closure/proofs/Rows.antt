@@ -1,0 +1,103 @@
+-- The records that the list names, read off the columns: a place of the list is a record of the table, and labels that the table of chains does not
+-- contradict are closed under the list's records.
+-- Assumes nothing.
+use Prim.Native.Nat.{ℕ, zero, suc, _+_, _-_, _*_, _≤_, _<_}
+use native.Mathlib.Omega.{arith}
+use mathlib.Core.Path.{_≡_, refl, sym, ap, _∙_}
+use mathlib.Core.Bool.{Bool, true, false, cond}
+use mathlib.Core.List.{List, [], _∷_, List·Memᴰ}
+use lib.Dec.{eqb}
+use lib.ListN.{length, getD}
+use Rattle.meaning.specs.Following.{Rec, eq, app, At, Those, Only}
+use Rattle.meaning.proofs.Close.{Closed, closed-by}
+use Rattle.meaning.proofs.Reference.{Small}
+use Rattle.table.specs.Map.{leftOf, rightOf, resultOf, listOf, labelOf, nextOf, headOf, gather, recAt, recordsIn, listIn, Loaded}
+use Rattle.table.proofs.Frame.{length-gather, getD-gather, gather-in, in-gather}
+use Rattle.closure.specs.Chain.{look}
+use Rattle.closure.specs.Closing.{Listed}
+use Rattle.closure.specs.State.{eqnOf, keyOf, resOf, Valid, Readable}
+
+module _ (N : ℕ) where
+  left-small : (b : Bool) (l r s : ℕ) → Small N (cond b (eq l r) (app l r s)) → l < N
+  left-small true l r s h = h .0
+  left-small false l r s h = h .0
+
+  right-small : (b : Bool) (l r s : ℕ) → Small N (cond b (eq l r) (app l r s)) → r < N
+  right-small true l r s h = h .1
+  right-small false l r s h = h .1
+
+  result-small : (b : Bool) (l r s : ℕ) → b ≡ false → Small N (cond b (eq l r) (app l r s)) → s < N
+  result-small b l r s e h = (rw e at h) .2
+
+module _ {N len n : ℕ} {w : List ℕ} (h : Listed N len n w) (i : ℕ) (l : i < n) where
+  number : listOf w i ≡ suc (listOf w i - 1)
+  number = omega (arith, h .named i l)
+
+  low : listOf w i - 1 < len
+  low = omega (arith, h .named i l)
+
+  small : Small N (recAt w (listOf w i))
+  small = rw number (h .loaded .small (listOf w i - 1) low)
+
+  pub row-left : leftOf w (listOf w i) < N
+  row-left = left-small N (eqnOf w i) (leftOf w (listOf w i)) (rightOf w (listOf w i)) (resultOf w (listOf w i)) small
+
+  pub row-right : rightOf w (listOf w i) < N
+  row-right = right-small N (eqnOf w i) (leftOf w (listOf w i)) (rightOf w (listOf w i)) (resultOf w (listOf w i)) small
+
+  pub row-result : eqnOf w i ≡ false → resultOf w (listOf w i) < N
+  row-result e = result-small N (eqnOf w i) (leftOf w (listOf w i)) (rightOf w (listOf w i)) (resultOf w (listOf w i)) e small
+
+  pub row-most : listOf w i ≤ 4000
+  row-most = omega (arith, h .named i l, h .loaded .most)
+
+  pub row-readable : (k : ℕ) → k ≡ listOf w i → Readable w k
+  row-readable k e = rw e (record {
+    long = h .loaded .long;
+    most = row-most;
+    left = omega (arith, row-left, h .loaded .few);
+    right = omega (arith, row-right, h .loaded .few);
+  })
+
+  pub row-in : List·Memᴰ (listOf w i) (listIn n w)
+  row-in = gather-in (listOf w) n i l
+
+  pub row-at : At (recordsIn len w) (listOf w i) (recAt w (listOf w i))
+  row-at = record {
+    place = listOf w i - 1;
+    number = number;
+    stands = rw (length-gather (λ k. recAt w (suc k)) len) low;
+    is = getD-gather (λ k. recAt w (suc k)) len (listOf w i - 1) (eq 0 0) low ∙ rw (← number);
+  }
+
+-- What stands in the columns is the record.
+at-rec : (len : ℕ) (w : List ℕ) (k : ℕ) (r : Rec) → At (recordsIn len w) k r → recAt w k ≡ r
+at-rec len w k r a =
+    let l : a .place < len = rw (length-gather (λ k. recAt w (suc k)) len) at (a .stands) in
+    rw (a .number) (sym (getD-gather (λ k. recAt w (suc k)) len (a .place) (eq 0 0) l) ∙ a .is)
+
+eq-parts : (b : Bool) (l r s x y : ℕ) → cond b (eq l r) (app l r s) ≡ eq x y → (b ≡ true) × (l ≡ x) × (r ≡ y)
+eq-parts true l r s x y e = (refl, cc, cc)
+eq-parts false l r s x y e = let z : _≡_ {A = ℕ} 0 1 = cc in absurd (omega arith)
+
+app-parts : (b : Bool) (l r s x y z : ℕ) → cond b (eq l r) (app l r s) ≡ app x y z → ((b ≡ false) × (l ≡ x)) × ((r ≡ y) × (s ≡ z))
+app-parts true l r s x y z e = let z : _≡_ {A = ℕ} 0 1 = cc in absurd (omega arith)
+app-parts false l r s x y z e = ((refl, cc), (cc, cc))
+
+pub valid-closed : {N len n : ℕ} {w : List ℕ} → Listed N len n w → Valid w n → Closed (Only (recordsIn len w) (listIn n w)) (labelOf w)
+valid-closed {N} {len} {n} {w} h v = closed-by (labelOf w) own (λ a b i. equal a b i) (λ a b c i. agree a b c i)
+  where
+    own : ℕ → ℕ → ℕ
+    own x y = resOf w (look (keyOf w) (headOf w) (nextOf w) (x * 65536 + y) - 1)
+
+    equal : (a b : ℕ) → Only (recordsIn len w) (listIn n w) (eq a b) → labelOf w a ≡ labelOf w b
+    equal a b i =
+        let g = in-gather (listOf w) n (i .0) (i .1) in
+        let p = eq-parts (eqnOf w (g .0)) (leftOf w (listOf w (g .0))) (rightOf w (listOf w (g .0))) (resultOf w (listOf w (g .0))) a b (rw (g .2) (at-rec len w (i .0) (eq a b) (i .2))) in
+        rw (← p .1, ← p .2) (v .equal (g .0) (g .1) (p .0))
+
+    agree : (a b c : ℕ) → Only (recordsIn len w) (listIn n w) (app a b c) → labelOf w c ≡ own (labelOf w a) (labelOf w b)
+    agree a b c i =
+        let g = in-gather (listOf w) n (i .0) (i .1) in
+        let p = app-parts (eqnOf w (g .0)) (leftOf w (listOf w (g .0))) (rightOf w (listOf w (g .0))) (resultOf w (listOf w (g .0))) a b c (rw (g .2) (at-rec len w (i .0) (app a b c) (i .2))) in
+        rw (← p .0 .1, ← p .1 .0, ← p .1 .1) (sym (v .filled .agree (g .0) (g .1) (p .0 .0)))

@@ -1,0 +1,202 @@
+-- What the regions show after a part of the table was written: a frame keeps each region outside it, and so the records, the list, the joins and the
+-- state that are read off the regions.
+-- Assumes nothing.
+use Prim.Native.Nat.{ℕ, zero, suc, _+_, _-_, _≤_, _<_}
+use native.Mathlib.Omega.{arith}
+use native.Mathlib.Decide.{ℕ-discrete, decLt}
+use mathlib.Core.Path.{_≡_, refl, sym, ap, _∙_, fun-ext}
+use mathlib.Core.Logic.{_≢_, _⊎_, inl, inr}
+use mathlib.Core.Bool.{Bool, true, false, cond}
+use mathlib.Core.List.{List, [], _∷_, _++_, map, append-assoc}
+use lib.Dec.{T, ltb}
+use lib.ListN.{length, take, drop, getD, length-append, length-drop, length-map, List·getD-map, List·getD-append}
+use lib.Seq.{getD-take, getD-drop, length-take-le, drop-at, drop-drop, take-at, getD-append-add}
+use Rattle.meaning.specs.Labels.{into}
+use Rattle.meaning.proofs.Relabel.{into-miss, getD-any}
+use Rattle.table.specs.Map.{seen, leftOf, rightOf, resultOf, parentOf, ageOf, firstOf, secondOf, whenOf, listOf, labelOf, nextOf, headOf, joinAt, recAt, recordsIn, listIn, Loaded, Within}
+use Rattle.table.proofs.Frame.{seen-at, seen-past, seen-within, within-trans, within-wider}
+use Rattle.closure.specs.Closing.{Listed}
+use Rattle.closure.specs.declared.Task.{Task}
+use Rattle.closure.specs.State.{State, Fills, CountsUp, Relabelled, Fresh, Cleared, Unlinked, Enlisted, Begun, Kept, Chained, Valid, eqnOf, keyOf, resOf}
+
+-- A part that was lent comes back as the list v.
+module _ (at n : ℕ) (w v : List ℕ) (fits : at + n ≤ length w) (size : length v ≡ n) where
+  back : List ℕ
+  back = take at w ++ (v ++ drop n (drop at w))
+
+  front : length (take at w) ≡ at
+  front = length-take-le at w (omega arith)
+
+  pub part-size : length (take at w ++ (v ++ drop n (drop at w))) ≡ length w
+  part-size = simp (length-append, front, length-drop) (omega arith)
+
+  pub part-at : (x : ℕ) → x < n → getD (take at w ++ (v ++ drop n (drop at w))) (at + x) 0 ≡ getD v x 0
+  part-at x l =
+      sym (getD-drop at (take at w ++ (v ++ drop n (drop at w))) x 0) ∙ ap (λ (u : List ℕ). getD u x 0) (drop-at (take at w) (v ++ drop n (drop at w)) at front)
+      ∙ List·getD-append v (drop n (drop at w)) 0 x (omega arith)
+
+  pub part-within : Within at (at + n) w (take at w ++ (v ++ drop n (drop at w)))
+  part-within = record { size = part-size; same = λ i. same i }
+    where
+      tail : drop (at + n) (take at w ++ (v ++ drop n (drop at w))) ≡ drop (at + n) w
+      tail =
+          ap (drop (at + n)) (sym (append-assoc (take at w) v (drop n (drop at w))))
+          ∙ drop-at (take at w ++ v) (drop n (drop at w)) (at + n) (length-append (take at w) v ∙ simp front (omega arith))
+          ∙ drop-drop n at w
+
+      same : (i : ℕ) → (i < at) ⊎ (at + n ≤ i) → getD (take at w ++ (v ++ drop n (drop at w))) i 0 ≡ getD w i 0
+      same i (inl l) = List·getD-append (take at w) (v ++ drop n (drop at w)) 0 i (omega (arith, front)) ∙ getD-take at w i 0 l
+      same i (inr l) =
+          let e : (at + n) + (i - (at + n)) ≡ i = omega arith in
+          rw (← e) (sym (getD-drop (at + n) _ (i - (at + n)) 0) ∙ ap (λ (u : List ℕ). getD u (i - (at + n)) 0) tail ∙ getD-drop (at + n) w (i - (at + n)) 0)
+
+-- Relabelling the part is relabelling the labels.
+pub relabelled : (w w′ v : List ℕ) (lo hi : ℕ) → 32768 ≤ length w → hi < 1000 → w′ ≡ take 21003 w ++ (v ++ drop 1000 (drop 21003 w)) → v ≡ map (into lo hi) (take 1000 (drop 21003 w))
+    → Relabelled w w′ lo hi
+relabelled w w′ v lo hi long h e q = record { frame = rw e (part-within 21003 1000 w v (omega arith) size); labels = fun-ext (λ x. go x (decLt x 1000)) }
+  where
+    size : length v ≡ 1000
+    size = rw q (length-map (take 1000 (drop 21003 w)) (into lo hi) ∙ length-take-le 1000 (drop 21003 w) (rw length-drop (omega arith)))
+
+    old : (x : ℕ) → x < 1000 → getD (take 1000 (drop 21003 w)) x 0 ≡ getD w (21003 + x) 0
+    old x l = getD-take 1000 (drop 21003 w) x 0 l ∙ getD-drop 21003 w x 0
+
+    go : (x : ℕ) → Dec (x < 1000) → labelOf w′ x ≡ into lo hi (labelOf w x)
+    go x (yes l) =
+        rw (seen-at 21003 1000 (λ x. x) w′ x l, seen-at 21003 1000 (λ x. x) w x l, e) (part-at 21003 1000 w v (omega arith) size x l
+        ∙ getD-any v x 0 (into lo hi 0) (omega (arith, size)) ∙ ap (λ (u : List ℕ). getD u x (into lo hi 0)) q ∙ List·getD-map (into lo hi) (take 1000 (drop 21003 w)) x 0 ∙ ap (into lo hi) (old x l))
+    go x (no l) = rw (seen-past 21003 1000 (λ x. x) w′ x (omega arith), seen-past 21003 1000 (λ x. x) w x (omega arith)) (sym (into-miss lo hi x (omega arith)))
+
+-- A part that was filled, or that counts up.
+module _ (at n : ℕ) (w w′ v : List ℕ) (fits : at + n ≤ length w) (size : length v ≡ length (take n (drop at w))) (e : w′ ≡ take at w ++ (v ++ drop n (drop at w))) where
+  part-length : length v ≡ n
+  part-length = size ∙ length-take-le n (drop at w) (rw length-drop (omega arith))
+
+  lent-within : Within at (at + n) w w′
+  lent-within = rw e (part-within at n w v fits part-length)
+
+  lent-at : (f : ℕ → ℕ) → ((i : ℕ) → i < length v → getD v i 0 ≡ f i) → (x : ℕ) → x < n → getD w′ (at + x) 0 ≡ f x
+  lent-at f h x l = rw e (part-at at n w v fits part-length x l ∙ h x (omega (arith, part-length)))
+
+module _ (w w′ v : List ℕ) (long : 32768 ≤ length w) where
+  pub freshened : length v ≡ length (take 1000 (drop 21003 w)) → w′ ≡ take 21003 w ++ (v ++ drop 1000 (drop 21003 w)) → CountsUp v 0 → Fresh w w′
+  freshened s e h = record { frame = lent-within 21003 1000 w w′ v (omega arith) s e; labels = λ x. go x (decLt x 1000) }
+    where
+      go : (x : ℕ) → Dec (x < 1000) → labelOf w′ x ≡ x
+      go x (yes l) = seen-at 21003 1000 (λ x. x) w′ x l ∙ lent-at 21003 1000 w w′ v (omega arith) s e (λ i. 0 + i) h x l ∙ omega arith
+      go x (no l) = seen-past 21003 1000 (λ x. x) w′ x (omega arith)
+
+  pub cleared : length v ≡ length (take 8093 (drop 22003 w)) → w′ ≡ take 22003 w ++ (v ++ drop 8093 (drop 22003 w)) → Fills v 0 → Cleared w w′
+  cleared s e h = record { frame = lent-within 22003 8093 w w′ v (omega arith) s e; heads = λ b. head b (decLt b 4093); nexts = λ r. next r (decLt r 4000) }
+    where
+      zero-at : (x : ℕ) → x < 8093 → getD w′ (22003 + x) 0 ≡ 0
+      zero-at = lent-at 22003 8093 w w′ v (omega arith) s e (λ i. 0) h
+
+      head : (b : ℕ) → Dec (b < 4093) → headOf w′ b ≡ 0
+      head b (yes l) = let q : 26003 + b ≡ 22003 + (4000 + b) = omega arith in seen-at 26003 4093 (λ x. 0) w′ b l ∙ rw q (zero-at (4000 + b) (omega arith))
+      head b (no l) = seen-past 26003 4093 (λ x. 0) w′ b (omega arith)
+
+      next : (r : ℕ) → Dec (r < 4000) → nextOf w′ r ≡ 0
+      next r (yes l) = seen-at 22003 4000 (λ x. 0) w′ r l ∙ zero-at r (omega arith)
+      next r (no l) = seen-past 22003 4000 (λ x. 0) w′ r (omega arith)
+
+  pub unlinked : length v ≡ length (take 1000 (drop 13003 w)) → w′ ≡ take 13003 w ++ (v ++ drop 1000 (drop 13003 w)) → Fills v 1000 → Unlinked w w′
+  unlinked s e h = record { frame = lent-within 13003 1000 w w′ v (omega arith) s e; ages = λ x. go x (decLt x 1000) }
+    where
+      go : (x : ℕ) → Dec (x < 1000) → ageOf w′ x ≡ 1000
+      go x (yes l) = seen-at 13003 1000 (λ x. 1000) w′ x l ∙ lent-at 13003 1000 w w′ v (omega arith) s e (λ i. 1000) h x l
+      go x (no l) = seen-past 13003 1000 (λ x. 1000) w′ x (omega arith)
+
+  pub enlisted : length v ≡ length (take 4000 (drop 17003 w)) → w′ ≡ take 17003 w ++ (v ++ drop 4000 (drop 17003 w)) → CountsUp v 1 → Enlisted w w′
+  enlisted s e h = record { frame = lent-within 17003 4000 w w′ v (omega arith) s e; listed = λ j l. seen-at 17003 4000 (λ x. 0) w′ j l ∙ lent-at 17003 4000 w w′ v (omega arith) s e (λ i. 1 + i) h j l ∙ omega arith }
+
+pub begun : {w a b c d : List ℕ} → Unlinked w a → Enlisted a b → Fresh b c → Cleared c d → Begun w d
+begun u l f z = record {
+  frame = within-trans (within-wider 12003 30096 (omega arith) (omega arith) (u .frame)) (within-trans (within-wider 12003 30096 (omega arith) (omega arith) (l .frame))
+      (within-trans (within-wider 12003 30096 (omega arith) (omega arith) (f .frame)) (within-wider 12003 30096 (omega arith) (omega arith) (z .frame))));
+  ages = λ x. rw (seen-within 13003 1000 (λ x. 1000) (z .frame) (inl (omega arith)), seen-within 13003 1000 (λ x. 1000) (f .frame) (inl (omega arith)), seen-within 13003 1000 (λ x. 1000) (l .frame) (inl (omega arith))) (u .ages x);
+  listed = λ j h. rw (seen-within 17003 4000 (λ x. 0) (z .frame) (inl (omega arith)), seen-within 17003 4000 (λ x. 0) (f .frame) (inl (omega arith))) (l .listed j h);
+  labels = λ x. rw (seen-within 21003 1000 (λ x. x) (z .frame) (inl (omega arith))) (f .labels x);
+  heads = z .heads;
+  nexts = z .nexts;
+}
+
+pub wide-frame : (b : Bool) {w w′ : List ℕ} → Within (cond b 12003 21003) 30096 w w′ → Within 12003 30096 w w′
+wide-frame true f = f
+wide-frame false f = within-wider 12003 30096 (omega arith) (omega arith) f
+
+-- The columns are kept.
+module _ {w w′ : List ℕ} (f : Within 12003 30096 w w′) where
+  pub lefts : leftOf w′ ≡ leftOf w
+  lefts = seen-within 0 4001 (λ x. 0) f (inl (omega arith))
+
+  pub rights : rightOf w′ ≡ rightOf w
+  rights = seen-within 4001 4001 (λ x. 0) f (inl (omega arith))
+
+  pub results : resultOf w′ ≡ resultOf w
+  results = seen-within 8002 4001 (λ x. 0) f (inl (omega arith))
+
+  pub loaded-same : {N len : ℕ} → Loaded N len w → Loaded N len w′
+  loaded-same h = record { long = omega (arith, h .long, f .size); some = h .some; few = h .few; most = h .most; small = rw (lefts, rights, results) (h .small) }
+
+  pub records-same : (len : ℕ) → recordsIn len w′ ≡ recordsIn len w
+  records-same len = rw (lefts, rights, results)
+
+  pub listed-same : {N len n : ℕ} → listOf w′ ≡ listOf w → Listed N len n w → Listed N len n w′
+  listed-same e h = record { loaded = loaded-same (h .loaded); short = h .short; named = rw e (h .named) }
+
+-- A change of the chains alone.
+module _ {w w′ : List ℕ} (f : Within 22003 30096 w w′) where
+  frame : Within 12003 30096 w w′
+  frame = within-wider 12003 30096 (omega arith) (omega arith) f
+
+  list : listOf w′ ≡ listOf w
+  list = seen-within 17003 4000 (λ x. 0) f (inl (omega arith))
+
+  label : labelOf w′ ≡ labelOf w
+  label = seen-within 21003 1000 (λ x. x) f (inl (omega arith))
+
+  parent : parentOf w′ ≡ parentOf w
+  parent = seen-within 12003 1000 (λ x. x) f (inl (omega arith))
+
+  age : ageOf w′ ≡ ageOf w
+  age = seen-within 13003 1000 (λ x. 1000) f (inl (omega arith))
+
+  first : firstOf w′ ≡ firstOf w
+  first = seen-within 14003 1000 (λ x. 0) f (inl (omega arith))
+
+  second : secondOf w′ ≡ secondOf w
+  second = seen-within 15003 1000 (λ x. 0) f (inl (omega arith))
+
+  when : whenOf w′ ≡ whenOf w
+  when = seen-within 16003 1000 (λ x. 0) f (inl (omega arith))
+
+  joins : joinAt w′ ≡ joinAt w
+  joins = fun-ext (λ a. rw (first, second, lefts frame, rights frame, results frame))
+
+  pub chains-state : {t : Task} {n : ℕ} → State t w n → State t w′ n
+  chains-state s = record {
+    listed = listed-same frame list (s .listed);
+    labels = rw label (s .labels);
+    sound = rw (lefts frame, rights frame, results frame, list, label) (s .sound);
+    total = rw label (s .total);
+    log = λ k. rw (joins, lefts frame, rights frame, results frame, list, label, parent, age, when) (s .log k);
+  }
+
+  pub chains-kept : (b : Bool) → Kept b w w′
+  chains-kept true = record { frame = frame; list = list }
+  chains-kept false = record { frame = within-wider 21003 30096 (omega arith) (omega arith) f; list = list }
+
+  -- What the chains are keyed by is kept.
+  pub eqns-same : eqnOf w′ ≡ eqnOf w
+  eqns-same = fun-ext (λ j. rw (results frame, list))
+
+  pub keys-same : keyOf w′ ≡ keyOf w
+  keys-same = fun-ext (λ j. rw (lefts frame, rights frame, list, label))
+
+  pub ress-same : resOf w′ ≡ resOf w
+  ress-same = fun-ext (λ j. rw (results frame, list, label))
+
+  pub equals-same : (i : ℕ) → ((j : ℕ) → j < i → eqnOf w j ≡ true → labelOf w (leftOf w (listOf w j)) ≡ labelOf w (rightOf w (listOf w j)))
+      → (j : ℕ) → j < i → eqnOf w′ j ≡ true → labelOf w′ (leftOf w′ (listOf w′ j)) ≡ labelOf w′ (rightOf w′ (listOf w′ j))
+  equals-same i h = rw (lefts frame, rights frame, results frame, list, label) h

@@ -1,0 +1,87 @@
+use borrow.Author.Needs.{needs}
+use Rattle.closure.proofs.apply.Statement.{statement}
+use Rattle.closure.proofs.apply.Tie as tie
+use Rattle.closure.proofs.apply.Reads as reads
+use Rattle.closure.proofs.apply.Lts as lts
+use Rattle.closure.proofs.insert.Reads as insert-reads
+use Rattle.closure.proofs.key.Reads as key-reads
+use Rattle.closure.proofs.seek.Reads as seek-reads
+use Rattle.closure.proofs.unify.Reads as unify-reads
+use Rattle.table.proofs.head.Reads as head-reads
+use Rattle.table.proofs.listed.Reads as listed-reads
+use mathlib.Core.Path.{_≡_, refl, sym, ap, _∙_}
+use mathlib.Core.List.{List, map}
+use Prim.Native.Nat.{ℕ, zero, suc, _+_, _-_, _*_, _≤_, _<_}
+use native.Mathlib.Omega.{arith}
+use lib.ListN.{length, getD, set, take, drop, length-set}
+use mathlib.Core.Logic.{⊎-elim}
+use denote.Ref.{now}
+use Prim.Native.Nat.{_%_}
+use Rattle.table.specs.Map.{headOf, nextOf}
+use Rattle.closure.specs.Chain.{look}
+use Rattle.closure.specs.State.{keyIn, keyOf}
+use Rattle.closure.proofs.Rows.{row-readable}
+use Rattle.closure.proofs.Steps.{apply-found, apply-insert}
+
+listed-requires : tie.Need-listed-requires
+listed-requires c κs = let p = c .before .before .pre .0 in (p .state .listed .loaded .long, omega (arith, p .place, p .state .listed .short))
+
+key-requires : tie.Need-key-requires
+key-requires c κs = let s = c .before .before .before .before in row-readable (s .pre .0 .state .listed) (s .args .i) (s .pre .0 .place) _ (c .before .listed .ensures)
+
+head-requires : tie.Need-head-requires
+head-requires c κs = (c .before .before .before .before .before .before .pre .0 .state .listed .loaded .long, omega arith)
+
+seek-requires : tie.Need-seek-requires
+seek-requires c κs =
+    let p = c .before .before .before .before .before .before .before .before .pre .0 in
+    record { listed = p .state .listed; low = rw (c .before .head .ensures) (omega (arith, p .chains .heads (c .before .before .before .key .result % 4093), p .place)); falls = p .chains .falls }
+
+-- After the search: where the function began, the key, and what was found.
+abbrev at-start : tie.After-seek → tie.Start
+at-start a = a .before .before .before .before .before .before .before .before .before
+
+key-is : (a : tie.After-seek) → a .before .before .before .before .key .result ≡ keyOf (now (at-start a .args .work)) (at-start a .args .i)
+key-is a = a .before .before .before .before .key .ensures ∙ ap (keyIn (now (at-start a .args .work))) (a .before .before .before .before .before .before .listed .ensures)
+
+found : (a : tie.After-seek) → a .seek .result ≡ look (keyOf (now (at-start a .args .work))) (headOf (now (at-start a .args .work))) (nextOf (now (at-start a .args .work))) (keyOf (now (at-start a .args .work)) (at-start a .args .i))
+found a = apply-found (now (at-start a .args .work)) (at-start a .args .i) (a .before .before .before .before .key .result) (a .before .before .head .result) (a .seek .result) (key-is a) (a .before .before .head .ensures) (a .seek .ensures)
+
+insert-requires : tie.Need-insert-requires
+insert-requires c κs =
+    let p = at-start (c .before .before) .pre .0 in
+    (p .state .listed .loaded .long, omega arith, omega (arith, p .place, p .state .listed .short), omega (arith, p .chains .heads (c .before .before .before .before .before .before .key .result % 4093), p .place, p .state .listed .short))
+
+same-length : tie.Need-same-length
+same-length c = search needs
+
+returns : tie.Need-returns
+returns c =
+    let a = c .before .before .before .before .before in
+    apply-insert (at-start a .pre .0) (at-start a .pre .1) _ (a .before .before .before .before .key .result) (a .seek .result) (key-is a) (found a) (c .before .before .before .before .if1 .taken) (c .before .before .insert .ensures)
+
+unify-requires : tie.Need-unify-requires
+unify-requires c κs =
+    let a = c .before .before in
+    record { step = at-start a .pre .0; app = at-start a .pre .1; found = found a; hit = omega (arith, c .before .if1 .left) }
+
+same-length-2 : tie.Need-same-length-2
+same-length-2 c = search needs
+
+returns-2 : tie.Need-returns-2
+returns-2 c = c .before .before .unify .ensures
+
+pub apply-spec : {M : Type 1} → statement M
+apply-spec =
+    tie.close
+    (tie.spec
+    listed-requires
+    key-requires
+    head-requires
+    seek-requires
+    insert-requires
+    same-length
+    returns
+    unify-requires
+    same-length-2
+    returns-2)

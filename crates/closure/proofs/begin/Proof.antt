@@ -1,0 +1,40 @@
+use borrow.Author.Needs.{needs}
+use Rattle.closure.proofs.begin.Statement.{statement}
+use Rattle.closure.proofs.begin.Tie as tie
+use Rattle.closure.proofs.begin.Reads as reads
+use Rattle.closure.proofs.begin.Lts as lts
+use Rattle.closure.proofs.clear.Reads as clear-reads
+use Rattle.closure.proofs.enlist.Reads as enlist-reads
+use Rattle.closure.proofs.fresh.Reads as fresh-reads
+use Rattle.closure.proofs.unlink.Reads as unlink-reads
+use mathlib.Core.Path.{_≡_, refl, sym, ap, _∙_}
+use mathlib.Core.List.{List, map}
+use Prim.Native.Nat.{ℕ, zero, suc, _+_, _-_, _*_, _≤_, _<_}
+use native.Mathlib.Omega.{arith}
+use lib.ListN.{length, getD, set, take, drop, length-set}
+use mathlib.Core.Logic.{⊎-elim}
+use denote.Ref.{now}
+use Rattle.closure.proofs.Views.{begun}
+
+unlink-requires : tie.Need-unlink-requires
+unlink-requires c κs = search needs
+
+enlist-requires : tie.Need-enlist-requires
+enlist-requires c κs = search needs
+
+fresh-requires : tie.Need-fresh-requires
+fresh-requires c κs = search needs
+
+clear-requires : tie.Need-clear-requires
+clear-requires c κs = search needs
+
+same-length : tie.Need-same-length
+same-length c = search needs
+
+returns : tie.Need-returns
+returns c = begun (c .before .before .before .before .before .before .before .before .before .before .before .before .before .before .unlink .ensures) (c .before .before .before .before .before .before .before .before .before .before .enlist .ensures) (c .before .before .before .before .before .before .fresh .ensures) (c .before .before .clear .ensures)
+
+pub begin-spec : {M : Type 1} → statement M
+begin-spec =
+    tie.close
+    (tie.spec unlink-requires enlist-requires fresh-requires clear-requires same-length returns)

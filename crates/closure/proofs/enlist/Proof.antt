@@ -1,0 +1,43 @@
+use borrow.Author.Needs.{needs}
+use Rattle.closure.proofs.enlist.Statement.{statement}
+use Rattle.closure.proofs.enlist.Tie as tie
+use Rattle.closure.proofs.enlist.Reads as reads
+use Rattle.closure.proofs.enlist.Lts as lts
+use Rattle.closure.proofs.count_up.Reads as count-up-reads
+use mathlib.Core.Path.{_≡_, refl, sym, ap, _∙_}
+use mathlib.Core.List.{List, map}
+use Prim.Native.Nat.{ℕ, zero, suc, _+_, _-_, _*_, _≤_, _<_}
+use native.Mathlib.Omega.{arith}
+use lib.ListN.{length, getD, set, take, drop, length-set}
+use mathlib.Core.Logic.{⊎-elim}
+use denote.Ref.{now}
+use Rattle.closure.proofs.Views.{enlisted}
+
+sub-count-up : tie.Need-sub-count-up
+sub-count-up c = search needs
+
+part-count-up-start : tie.Need-part-count-up-start
+part-count-up-start c = search needs
+
+part-count-up-end : tie.Need-part-count-up-end
+part-count-up-end c = search needs
+
+count-up-requires : tie.Need-count-up-requires
+count-up-requires c κs = search needs
+
+same-length : tie.Need-same-length
+same-length c = search needs
+
+returns : tie.Need-returns
+returns c = enlisted (now (c .before .before .before .before .before .args .work)) _ (c .before .before .count-up .last .0) (c .before .before .before .before .before .pre) (c .before .before .count-up .kept .0) refl (c .before .before .count-up .ensures)
+
+pub enlist-spec : {M : Type 1} → statement M
+enlist-spec =
+    tie.close
+    (tie.spec
+    sub-count-up
+    part-count-up-start
+    part-count-up-end
+    count-up-requires
+    same-length
+    returns)

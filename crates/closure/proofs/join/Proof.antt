@@ -1,0 +1,37 @@
+use borrow.Author.Needs.{needs}
+use Rattle.closure.proofs.join.Statement.{statement}
+use Rattle.closure.proofs.join.Tie as tie
+use Rattle.closure.proofs.join.Reads as reads
+use Rattle.closure.proofs.join.Lts as lts
+use Rattle.closure.proofs.unite.Reads as unite-reads
+use mathlib.Core.Path.{_≡_, refl, sym, ap, _∙_}
+use mathlib.Core.List.{List, map}
+use Prim.Native.Nat.{ℕ, zero, suc, _+_, _-_, _*_, _≤_, _<_}
+use native.Mathlib.Omega.{arith}
+use lib.ListN.{length, getD, set, take, drop, length-set}
+use mathlib.Core.Logic.{⊎-elim}
+use denote.Ref.{now}
+use Rattle.closure.proofs.Uniting.{joining-flip}
+
+unite-requires : tie.Need-unite-requires
+unite-requires c κs = (c .before .before .before .before .before .pre, c .before .if1 .taken)
+
+unite-requires-2 : tie.Need-unite-requires-2
+unite-requires-2 c κs = let s = c .before .before .before .before .before in (joining-flip (s .pre), omega (arith, s .pre .apart, c .before .if1 .left))
+
+same-length : tie.Need-same-length
+same-length c = search needs
+
+returns : tie.Need-returns
+returns c = c .before .before .unite .ensures
+
+same-length-2 : tie.Need-same-length-2
+same-length-2 c = search needs
+
+returns-2 : tie.Need-returns-2
+returns-2 c = c .before .before .unite2 .ensures
+
+pub join-spec : {M : Type 1} → statement M
+join-spec =
+    tie.close
+    (tie.spec unite-requires unite-requires-2 same-length returns same-length-2 returns-2)

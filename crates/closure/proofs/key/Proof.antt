@@ -1,0 +1,57 @@
+use borrow.Author.Needs.{needs}
+use Rattle.closure.proofs.key.Statement.{statement}
+use Rattle.closure.proofs.key.Tie as tie
+use Rattle.closure.proofs.key.Reads as reads
+use Rattle.closure.proofs.key.Lts as lts
+use Rattle.closure.proofs.wide.Reads as wide-reads
+use Rattle.table.proofs.label.Reads as label-reads
+use Rattle.table.proofs.left.Reads as left-reads
+use Rattle.table.proofs.right.Reads as right-reads
+use mathlib.Core.Path.{_≡_, refl, sym, ap, _∙_}
+use mathlib.Core.List.{List, map}
+use Prim.Native.Nat.{ℕ, zero, suc, _+_, _-_, _*_, _≤_, _<_}
+use native.Mathlib.Omega.{arith}
+use lib.ListN.{length, getD, set, take, drop, length-set}
+use mathlib.Core.Logic.{⊎-elim}
+use denote.Ref.{now}
+
+left-requires : tie.Need-left-requires
+left-requires c κs = search needs
+
+right-requires : tie.Need-right-requires
+right-requires c κs = search needs
+
+label-requires : tie.Need-label-requires
+label-requires c κs = search needs
+
+label-requires-2 : tie.Need-label-requires-2
+label-requires-2 c κs = search needs
+
+wide-requires : tie.Need-wide-requires
+wide-requires c κs = search needs
+
+mul-result : tie.Need-mul-result
+mul-result c = search needs
+
+wide-requires-2 : tie.Need-wide-requires-2
+wide-requires-2 c κs = search needs
+
+add-result : tie.Need-add-result
+add-result c = search needs
+
+returns : tie.Need-returns
+returns c = cc
+
+pub key-spec : {M : Type 1} → statement M
+key-spec =
+    tie.close
+    (tie.spec
+    left-requires
+    right-requires
+    label-requires
+    label-requires-2
+    wide-requires
+    mul-result
+    wide-requires-2
+    add-result
+    returns)

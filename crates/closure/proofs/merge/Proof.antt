@@ -1,0 +1,39 @@
+use borrow.Author.Needs.{needs}
+use Rattle.closure.proofs.merge.Statement.{statement}
+use Rattle.closure.proofs.merge.Tie as tie
+use Rattle.closure.proofs.merge.Reads as reads
+use Rattle.closure.proofs.merge.Lts as lts
+use Rattle.closure.proofs.relabel.Reads as relabel-reads
+use mathlib.Core.Path.{_≡_, refl, sym, ap, _∙_}
+use mathlib.Core.List.{List, map}
+use Prim.Native.Nat.{ℕ, zero, suc, _+_, _-_, _*_, _≤_, _<_}
+use native.Mathlib.Omega.{arith}
+use lib.ListN.{length, getD, set, take, drop, length-set}
+use mathlib.Core.Logic.{⊎-elim}
+use denote.Ref.{now}
+use Rattle.closure.proofs.Views.{relabelled}
+
+sub-relabel : tie.Need-sub-relabel
+sub-relabel c = search needs
+
+part-relabel-start : tie.Need-part-relabel-start
+part-relabel-start c = search needs
+
+part-relabel-end : tie.Need-part-relabel-end
+part-relabel-end c = search needs
+
+relabel-requires : tie.Need-relabel-requires
+relabel-requires c κs = search needs
+
+same-length : tie.Need-same-length
+same-length c = search needs
+
+returns : tie.Need-returns
+returns c =
+    let s = c .before .before .before .before .before in
+    relabelled (now (s .args .work)) _ (c .before .before .relabel .last .0) (s .args .lo .0) (s .args .hi .0) (s .pre .0) (s .pre .1) refl (c .before .before .relabel .ensures)
+
+pub merge-spec : {M : Type 1} → statement M
+merge-spec =
+    tie.close
+    (tie.spec sub-relabel part-relabel-start part-relabel-end relabel-requires same-length returns)

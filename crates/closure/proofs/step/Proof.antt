@@ -1,0 +1,59 @@
+use borrow.Author.Needs.{needs}
+use Rattle.closure.proofs.step.Statement.{statement}
+use Rattle.closure.proofs.step.Tie as tie
+use Rattle.closure.proofs.step.Reads as reads
+use Rattle.closure.proofs.step.Lts as lts
+use Rattle.closure.proofs.apply.Reads as apply-reads
+use Rattle.closure.proofs.equate.Reads as equate-reads
+use Rattle.table.proofs.is_equation.Reads as is-equation-reads
+use Rattle.table.proofs.listed.Reads as listed-reads
+use mathlib.Core.Path.{_≡_, refl, sym, ap, _∙_}
+use mathlib.Core.List.{List, map}
+use Prim.Native.Nat.{ℕ, zero, suc, _+_, _-_, _*_, _≤_, _<_}
+use native.Mathlib.Omega.{arith}
+use lib.ListN.{length, getD, set, take, drop, length-set}
+use mathlib.Core.Logic.{⊎-elim}
+use denote.Ref.{now}
+use Rattle.closure.proofs.Rows.{row-most}
+use Rattle.closure.proofs.Steps.{eqn-is}
+
+listed-requires : tie.Need-listed-requires
+listed-requires c κs = let p = c .before .before .pre in (p .state .listed .loaded .long, omega (arith, p .place, p .state .listed .short))
+
+is-equation-requires : tie.Need-is-equation-requires
+is-equation-requires c κs = let p = c .before .before .before .before .pre in (p .state .listed .loaded .long, rw (c .before .listed .ensures) (row-most (p .state .listed) _ (p .place)))
+
+equate-requires : tie.Need-equate-requires
+equate-requires c κs =
+    let s = c .before .before .before .before .before .before .before in
+    (s .pre, eqn-is (now (s .args .work)) (s .args .i) _ _ _ (c .before .before .before .before .listed .ensures) (c .before .before .is-equation .ensures) (c .before .if1 .taken))
+
+apply-requires : tie.Need-apply-requires
+apply-requires c κs =
+    let s = c .before .before .before .before .before .before .before in
+    (s .pre, eqn-is (now (s .args .work)) (s .args .i) _ _ _ (c .before .before .before .before .listed .ensures) (c .before .before .is-equation .ensures) (c .before .if1 .left))
+
+same-length : tie.Need-same-length
+same-length c = search needs
+
+returns : tie.Need-returns
+returns c = c .before .before .equate .ensures
+
+same-length-2 : tie.Need-same-length-2
+same-length-2 c = search needs
+
+returns-2 : tie.Need-returns-2
+returns-2 c = c .before .before .apply .ensures
+
+pub step-spec : {M : Type 1} → statement M
+step-spec =
+    tie.close
+    (tie.spec
+    listed-requires
+    is-equation-requires
+    equate-requires
+    apply-requires
+    same-length
+    returns
+    same-length-2
+    returns-2)
