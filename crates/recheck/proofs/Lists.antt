@@ -9,7 +9,7 @@ use mathlib.Core.Logic.{_≢_, _↔_, inl, inr}
 use mathlib.Core.Bool.{Bool, true, false}
 use mathlib.Core.List.{List, [], _∷_, _++_, List·Memᴰ, List·Memᴰ·append-cases, List·Memᴰ·eq-of-singleton, Memᴰ·append-left}
 use lib.ListN.{length, set}
-use Rattle.meaning.specs.Following.{Follows, Without}
+use Rattle.meaning.specs.Following.{Rec, Follows, Without}
 use Rattle.meaning.specs.Joins.{put}
 use Rattle.meaning.specs.Reasons.{Above, lastOf}
 use Rattle.meaning.proofs.Close.{more-of}
@@ -23,7 +23,7 @@ use Rattle.reasons.proofs.Kept.{kept-records, kept-loaded, kept-past}
 use Rattle.report.proofs.Read.{is-not}
 use Rattle.recheck.specs.declared.Question.{Question}
 use Rattle.recheck.specs.Right.{Posed, Deciding}
-use Rattle.recheck.specs.Lists.{Rising, Distinct, Swap, Swapped, Named, Sparing, NoneSpare, Sufficient}
+use Rattle.recheck.specs.Lists.{Rising, Distinct, Swap, Swapped, Arranged, Named, Sparing, Serving, NoneSpare, Sufficient}
 
 -- Rising, number by number.
 above-unsnoc : (m : ℕ) (L : List ℕ) (k : ℕ) → Above m (L ++ (k ∷ [])) → Above m L × (lastOf m L < k)
@@ -311,3 +311,34 @@ module _ {w w′ : List ℕ} (q : Question) {n : ℕ} {answer : Bool} (h : Entai
         kept = within-trans (entailing-kept h) (d .kept);
         exact = (λ t. record { entails = h .exact .0 e; unspared = x .0 t }, λ s. x .1 (s .unspared));
       }
+
+-- Another order is the same list to every test.
+pub arranged-none : (n : ℕ) (w : List ℕ) → Arranged n w w
+arranged-none n w = record { kept = within-refl w; same = λ x. (λ m. m, λ m. m); distinct = λ d. d }
+
+pub arranged-trans : {n : ℕ} {w w′ w″ : List ℕ} → Arranged n w w′ → Arranged n w′ w″ → Arranged n w w″
+arranged-trans h k = record {
+  kept = within-trans (h .kept) (k .kept);
+  same = λ x. (λ m. k .same x .0 (h .same x .0 m), λ m. h .same x .1 (k .same x .1 m));
+  distinct = λ d. k .distinct (h .distinct d);
+}
+
+pub arranged-swap : {n i j : ℕ} {w w′ : List ℕ} → i < n → j < n → Swapped i j w w′ → Arranged n w w′
+arranged-swap l m s = record { kept = s .kept; same = swap-same (s .swap) l m; distinct = swap-distinct (s .swap) l m }
+
+pub arranged-named : {n : ℕ} {w w′ : List ℕ} {q : Question} → Arranged n w w′ → Named w q n → Named w′ q n
+arranged-named h g = record { posed = posed-kept (h .kept) (g .posed); listed = listed-kept (h .kept) (λ x. h .same x .1) (g .listed); distinct = h .distinct (g .distinct) }
+
+serving-same : {rs : List Rec} {s t : ℕ} {L M : List ℕ} → ((x : ℕ) → List·Memᴰ x L ↔ List·Memᴰ x M) → Serving rs s t L → Serving rs s t M
+serving-same e h = record {
+  entails = more-of (λ x. e x .0) (h .entails);
+  unspared = record { unspared = λ m i f. h .unspared .unspared m (e m .1 i) (more-of (λ x j. (e x .1 (j .0), j .1)) f) };
+}
+
+pub arranged-serving : {w w′ w″ : List ℕ} (q : Question) {n : ℕ} {answer : Bool} → Arranged n w w′ → Deciding (Sufficient w′ q n) w′ w″ answer → Deciding (Sufficient w q n) w w″ answer
+arranged-serving {w} {w′} {w″} q {n} {answer} h d =
+    let x : (answer ≡ true) ↔ Serving (recordsIn (q .len) w) (q .s .0) (q .t .0) (listIn n w′) = rw (kept-records (h .kept) (q .len)) at (d .exact) in
+    record {
+      kept = within-trans (within-wider 17003 31096 (omega arith) (omega arith) (h .kept)) (d .kept);
+      exact = (λ e. serving-same (λ y. (h .same y .1, h .same y .0)) (x .0 e), λ s. x .1 (serving-same (h .same) s));
+    }

@@ -1,6 +1,6 @@
 -- The list of a reason in the table: whether it rises, and whether none of its numbers can be spared.
 -- Assumes nothing.
-use Prim.Native.Nat.{ℕ, _-_, _<_}
+use Prim.Native.Nat.{ℕ, _-_, _≤_, _<_}
 use mathlib.Core.Path.{_≡_}
 use mathlib.Core.Logic.{_≢_, _↔_}
 use mathlib.Core.Bool.{Bool, true}
@@ -30,6 +30,17 @@ pub record Swap (f g : ℕ → ℕ) (i j : ℕ) : Type 0 where
 pub record Swapped (i j : ℕ) (w w′ : List ℕ) : Type 0 where
   pub kept : Within 17003 21003 w w′
   pub swap : Swap (listOf w) (listOf w′) i j
+
+-- The first n numbers of the list may stand in another order, and nothing else changed.
+pub record Arranged (n : ℕ) (w w′ : List ℕ) : Type 0 where
+  pub kept : Within 17003 21003 w w′
+  pub same : (x : ℕ) → List·Memᴰ x (listIn n w) ↔ List·Memᴰ x (listIn n w′)
+  pub distinct : Distinct (listOf w) n → Distinct (listOf w′) n
+
+-- The same, and p of its places at most are settled.
+pub record Brought (n p : ℕ) (w w′ : List ℕ) : Type 0 where
+  pub within : p ≤ n
+  pub arranged : Arranged n w w′
 
 -- The list names records of the table, each once.
 pub record Named (w : List ℕ) (q : Question) (n : ℕ) : Type 0 where

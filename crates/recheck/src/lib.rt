@@ -3,14 +3,15 @@
 ghost use mathlib.Core.Path.{_≡_};
 ghost use mathlib.Core.Logic.{_↔_};
 ghost use mathlib.Core.Bool.{true};
-ghost use Prim.Native.Nat.{ℕ, _+_, _-_, _*_, _≤_, _<_};
+ghost use Prim.Native.Nat.{_+_, _≤_, _<_};
 ghost use lib.ListN.{length};
 ghost use Rattle.table.specs.Map.{listIn, recordsIn};
 ghost use Rattle.recheck.specs.Judging.{Judgeable, Judged};
 ghost use Rattle.recheck.specs.Right.{Posed, Came, RightAt, AskAnswer, question, Deciding, Explained, Reasoned, Known, Ended};
-ghost use Rattle.recheck.specs.Lists.{Rising, Swapped, Named, Sparing, NoneSpare, Sufficient};
+ghost use Rattle.recheck.specs.Lists.{Rising, Swapped, Arranged, Brought, Named, Sparing, NoneSpare, Sufficient};
 ghost use Rattle.recheck.specs.Going.{Going, Advanced, behind};
 use job::Field;
+use meaning::RecordNo;
 use meaning::Tag;
 use reasons::meeting::wide;
 use report::Front;
@@ -175,7 +176,7 @@ fn tight(work: &mut [u16], count: usize, q: Question) -> bool
 }
 
 // Whether the list makes s and t equal, and none of its numbers can be spared.
-fn serves(work: &mut [u16], count: usize, q: Question) -> bool
+fn suffices(work: &mut [u16], count: usize, q: Question) -> bool
     requires { ⌜ Named (now work) q count ⌝ }
     ensures { λ r. ⌜ Deciding (Sufficient (now (work .entry)) q count) (now (work .entry)) (now (work .exit)) r ⌝ }
 {
@@ -184,6 +185,56 @@ fn serves(work: &mut [u16], count: usize, q: Question) -> bool
     } else {
         false
     }
+}
+
+// If record r stands in the list from place p on, it comes to place p. Says which place is next.
+fn bring(work: &mut [u16], count: usize, p: usize, r: RecordNo) -> usize
+    requires { ⌜ (32768 ≤ length (now work)) × (count ≤ 4000) × (p ≤ count) ⌝ }
+    ensures { λ n. ⌜ Brought count n (now (work .entry)) (now (work .exit)) ⌝ }
+{
+    let mut j = p;
+    while j < count {
+        let x = table::listed(work, j);
+        if x.0 == r.0 {
+            swap(work, p, j);
+            return p + 1;
+        }
+        j += 1;
+    }
+    p
+}
+
+// The same for both records of the join of age a.
+fn bring_both(work: &mut [u16], count: usize, p: usize, a: usize) -> usize
+    requires { ⌜ (32768 ≤ length (now work)) × (count ≤ 4000) × (p ≤ count) × (a < 1000) ⌝ }
+    ensures { λ n. ⌜ Brought count n (now (work .entry)) (now (work .exit)) ⌝ }
+{
+    let r = table::first(work, a);
+    let n = bring(work, count, p, r);
+    let r2 = table::second(work, a);
+    bring(work, count, n, r2)
+}
+
+// Puts the list into the order in which the closure of all records came to use them: in that order its own closure needs few passes.
+fn arrange(work: &mut [u16], count: usize, joins: usize)
+    requires { ⌜ (32768 ≤ length (now work)) × (count ≤ 4000) × (joins ≤ 1000) ⌝ }
+    ensures { λ _. ⌜ Arranged count (now (work .entry)) (now (work .exit)) ⌝ }
+{
+    let mut p = 0;
+    let mut a = 0;
+    while a < joins {
+        p = bring_both(work, count, p, a);
+        a += 1;
+    }
+}
+
+// The same test for a list in any order.
+fn serves(work: &mut [u16], count: usize, q: Question) -> bool
+    requires { ⌜ Named (now work) q count ⌝ }
+    ensures { λ r. ⌜ Deciding (Sufficient (now (work .entry)) q count) (now (work .entry)) (now (work .exit)) r ⌝ }
+{
+    arrange(work, count, q.joins);
+    suffices(work, count, q)
 }
 
 // Whether so many bytes at a place are the numbers of a reason, where `first` is the first k.

@@ -1,34 +1,28 @@
--- `recheck::serves` meets its contract: the closure decides whether the list entails, and then each number is left out once.
+-- `recheck::serves` meets its contract: what follows from a list is told by the set of its numbers, whatever their order.
 -- Assumes nothing.
+use native.Mathlib.Omega.{arith}
 use mathlib.Core.Path.{_∙_}
-use Rattle.recheck.proofs.Lists.{named-after, not-serving, serving}
+use Rattle.recheck.proofs.Lists.{arranged-named, arranged-serving}
 use Rattle.recheck.proofs.serves.Statement.{statement}
 use Rattle.recheck.proofs.serves.Tie as tie
 
-entails-requires : tie.Need-entails-requires
-entails-requires c κs = let start = c .before .before in (start .pre .listed, start .pre .posed .from, start .pre .posed .to)
+arrange-requires : tie.Need-arrange-requires
+arrange-requires c κs =
+    let start = c .before .before in
+    let p = start .pre .posed .past in
+    (p .loaded .long, start .pre .listed .short, omega (arith, p .low, p .loaded .few))
 
-tight-requires : tie.Need-tight-requires
-tight-requires c κs =
-    let start = c .before .before .before .before .before .before .before in
-    named-after (start .args .q) (c .before .before .before .before .entails .ensures) (start .pre)
+suffices-requires : tie.Need-suffices-requires
+suffices-requires c κs = arranged-named (c .before .before .before .arrange .ensures) (c .before .before .before .before .before .before .pre)
 
 same-length : tie.Need-same-length
-same-length c = c .before .before .tight .ensures .kept .size ∙ c .before .before .before .before .before .before .before .entails .ensures .kept .size
+same-length c = c .before .before .suffices .ensures .kept .size ∙ c .before .before .before .before .before .before .arrange .ensures .kept .size
 
 returns : tie.Need-returns
 returns c =
-    let start = c .before .before .before .before .before .before .before .before .before .before in
-    serving (start .args .q) (c .before .before .before .before .before .before .before .entails .ensures) (c .before .before .before .before .if1 .taken) (c .before .before .tight .ensures)
-
-same-length-2 : tie.Need-same-length-2
-same-length-2 c = c .before .before .before .entails .ensures .kept .size
-
-returns-2 : tie.Need-returns-2
-returns-2 c =
-    let start = c .before .before .before .before .before .before in
-    not-serving (start .args .q) (c .before .before .before .entails .ensures) (c .if1 .left)
+    let start = c .before .before .before .before .before .before .before .before .before in
+    arranged-serving (start .args .q) (c .before .before .before .before .before .before .arrange .ensures) (c .before .before .suffices .ensures)
 
 pub serves-spec : {M : Type 1} → statement M
 serves-spec =
-    tie.close (tie.spec entails-requires tight-requires same-length returns same-length-2 returns-2)
+    tie.close (tie.spec arrange-requires suffices-requires same-length returns)
