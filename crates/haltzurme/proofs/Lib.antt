@@ -1,3 +1,4 @@
 pub mod Clearing
 pub mod One
 pub mod Whole
+pub mod Rest

@@ -76,7 +76,7 @@ module _ (job room : List ℕ) (t : List Record) (w : List ℕ) (s : Sight) (h :
 
   module _ (t′ : List Record) (w′ : List ℕ) (d : Handed job t w (s .records) t′ w′) where
     pub handed-begun : Begun job room w′ s
-    handed-begun = record { long = omega (arith, d .frame .size, h .numbers); looked = seen; loaded = in-columns job t w s h t′ w′ d (looked-ready seen); columns = as-items job t w s h t′ w′ d (looked-ready seen) }
+    handed-begun = record { short = h .short; long = omega (arith, d .frame .size, h .numbers); looked = seen; loaded = in-columns job t w s h t′ w′ d (looked-ready seen); columns = as-items job t w s h t′ w′ d (looked-ready seen) }
 
     pub finished-ran : (n p l : ℕ) (room′ w″ : List ℕ) (t″ : List Record) → Finished job room w′ n p l room′ w″ → Blanked t′ t″ → Ran job room t w n p l room′ t″ w″
     finished-ran n p l room′ w″ t″ (f.unread e c) b = r.unread h e (emptied job t w s h t′ w′ d c b)

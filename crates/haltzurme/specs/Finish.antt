@@ -16,6 +16,7 @@ use Rattle.haltzurme.specs.Look.{Looked}
 
 -- What was seen of the job and the room, and that where the run may go on the columns hold the job's records, with tags below N.
 pub record Begun (job room work : List ℕ) (s : Sight) : Type 0 where
+  pub short : length job ≤ 43008
   pub long : 32768 ≤ length work
   pub looked : Looked job (length room) (s .ready) (s .number) (s .place) (s .size) (s .records)
   pub loaded : s .ready ≡ true → Loaded (s .size) (s .records) work

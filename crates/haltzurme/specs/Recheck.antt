@@ -13,6 +13,9 @@ use Rattle.records.specs.declared.Record.{Record}
 use Rattle.table.specs.Map.{recordsIn, Loaded}
 use Rattle.report.specs.Report.{Sound}
 use Rattle.report.specs.Fault.{FaultAt}
+use Rattle.recheck.specs.declared.Judgement.{Judgement}
+use Rattle.recheck.specs.declared.Judgement.the-variants as j
+use Rattle.haltzurme.specs.declared.Finding.{Finding}
 use Rattle.haltzurme.specs.declared.Sight.{Sight}
 use Rattle.haltzurme.specs.Run.{Cleared, Lent, Emptied}
 
@@ -50,3 +53,8 @@ pub data Weighed (job report work : List ℕ) : ℕ → ℕ → List ℕ → Typ
   unread : {n p : ℕ} {work′ : List ℕ} → reading job ≡ refused n p → Cleared work work′ → Weighed job report work n p work′
   unsound : {N p : ℕ} {items : List Item} {work′ : List ℕ} → reading job ≡ accepted N items → FaultAt N (recordsOf items) 0 items 0 report p → Cleared work work′ → Weighed job report work 10 p work′
   sound : {N : ℕ} {items : List Item} {work′ : List ℕ} → reading job ≡ accepted N items → Sound N (recordsOf items) 0 items report → Cleared work work′ → Weighed job report work 0 0 work′
+
+-- What a judgement of the report comes to: 0 where it is sound, and 10 at the first place at fault.
+abbrev pub findingOf : Judgement → Finding
+findingOf j.Sound = record { number = 0; place = 0 }
+findingOf (j.Fault p) = record { number = 10; place = p }

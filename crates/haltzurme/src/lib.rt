@@ -5,12 +5,16 @@ ghost use Prim.Native.Nat.{ℕ, _+_, _≤_, _<_};
 ghost use lib.ListN.{length};
 ghost use Rattle.haltzurme.specs.Run.{Wiped, Cleared, Lent, Ran};
 ghost use Rattle.haltzurme.specs.Finish.{Begun, Finished};
-ghost use Rattle.haltzurme.specs.Recheck.{Rechecked, Viewed, Opened, Weighed};
+ghost use Rattle.haltzurme.specs.Recheck.{Rechecked, Viewed, Opened, Weighed, findingOf};
 ghost use Rattle.haltzurme.specs.Look.{Looked};
+use answers::respond;
+use closure::close;
 use fill::take_in;
 use job::Answer as Read;
 use job::number_of;
 use job::read_job;
+use recheck::Judgement;
+use recheck::judge;
 use records::Record;
 use records::clear as blank_out;
 
@@ -106,11 +110,21 @@ fn finish(job: &[u8], room: &mut [u8], work: &mut [u16], s: Sight) -> Answer
     requires { ⌜ Begun (now job) (now room) (now work) s ⌝ }
     ensures { λ r. ⌜ Finished (now (job .entry)) (now (room .entry)) (now (work .entry)) (r .number) (r .place) (r .length) (now (room .exit)) (now (work .exit)) ⌝ }
 {
-    clear(work);
-    Answer {
-        number: s.number,
-        place: s.place,
-        length: 0,
+    if s.ready {
+        let length = respond(job, room, work, s.size, s.records);
+        clear(work);
+        Answer {
+            number: 0,
+            place: 0,
+            length,
+        }
+    } else {
+        clear(work);
+        Answer {
+            number: s.number,
+            place: s.place,
+            length: 0,
+        }
     }
 }
 
@@ -187,15 +201,35 @@ fn view(job: &[u8]) -> Sight
     }
 }
 
+// The answer that a judgement comes to.
+fn found(j: Judgement) -> Finding
+    ensures { λ r. ⌜ r ≡ findingOf j ⌝ }
+{
+    match j {
+        Judgement::Sound => Finding {
+            number: 0,
+            place: 0,
+        },
+        Judgement::Fault(place) => Finding { number: 10, place },
+    }
+}
+
 // The rest of a recheck, with no record table in sight.
 fn weigh(job: &[u8], report: &[u8], work: &mut [u16], s: Sight) -> Finding
     requires { ⌜ Opened (now job) (now work) s ⌝ }
     ensures { λ r. ⌜ Weighed (now (job .entry)) (now (report .entry)) (now (work .entry)) (r .number) (r .place) (now (work .exit)) ⌝ }
 {
-    clear(work);
-    Finding {
-        number: s.number,
-        place: s.place,
+    if s.ready {
+        let t = close(work, s.size, s.records);
+        let j = judge(job, report, work, s.size, s.records, t.joins, t.idle);
+        clear(work);
+        found(j)
+    } else {
+        clear(work);
+        Finding {
+            number: s.number,
+            place: s.place,
+        }
     }
 }
 

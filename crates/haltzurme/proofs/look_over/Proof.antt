@@ -284,7 +284,7 @@ module _ {M : Type 1} (𝓤 : URA M) (H : Heap 𝓤) (A : Atoms 𝓤) (W : Given
     blanks : (s : Sight) (r : Finding) (va : Val) (u : List Record) (v : List ℕ) (zw : List ℕ) → Is Ans r (va ∷ []) → length u ≡ length ys → length zw ≡ length ws
         → ((zc : List Record) → Blanked u zc → Checks (xj .now) (xr .now) ys ws r zc zw)
         → Sq W (‵ (MutSlice (named 2) κc R .own (rc γc u) (vC u ∷ [])) ∷ ‵ (flft κc qc) ∷ ‵ (flft κw qw) ∷ ‵ (finally u16 γw zw) ∷ ‵ (flft κr qr) ∷ Or ∷ Oj ∷ ‵ (flft κj qj)
-            ∷ Locs (‵ (fat fullShare S′.mir l₅ 0 (sval s))) (‵ (fat fullShare N′.mir l₆ 0 va)) u v)
+        ∷ Locs (‵ (fat fullShare S′.mir l₅ 0 (sval s))) (‵ (fat fullShare N′.mir l₆ 0 va)) u v)
         (runs C Λ En m.t-10 (atRet En Ends))
     blanks s r va u v zw is lu lw out =
         assigns ! (addr ! (from ! (fld ! refl (hop ! (look-in ! 32 (sub ! 0 refl (whole !))) (stop !))))) (from ! (stop !)) (init ! 10 refl (tt, tt)) $
