@@ -3,7 +3,7 @@
 -- Assumes nothing.
 use Prim.Native.Nat.{ℕ, _-_, _≤_}
 use native.Mathlib.Omega.{arith}
-use mathlib.Core.Path.{_≡_, refl, sym, _∙_, ap, subst}
+use mathlib.Core.Path.{_≡_, sym, _∙_, ap, subst}
 use mathlib.Core.Bool.{Bool, true, false}
 use mathlib.Core.List.{List}
 use lib.ListN.{length}
@@ -13,7 +13,7 @@ use Rattle.job.specs.Items.{Item, Reading, accepted, recordsOf, neededRoom}
 use Rattle.job.specs.Reading.{reading}
 use Rattle.job.specs.Standing.{Job}
 use Rattle.job.proofs.Standing.{accepted-stands}
-use Rattle.table.specs.Map.{recordsIn, Within}
+use Rattle.table.specs.Map.{recordsIn}
 use Rattle.table.proofs.Frame.{within-wider, within-trans}
 use Rattle.closure.specs.Closing.{Closing}
 use Rattle.report.specs.Report.{Sound}

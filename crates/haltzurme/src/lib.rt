@@ -1,5 +1,5 @@
 // The tool's calls. Document 01, "What is lent, and each refusal". No call here has a condition on its caller: every job, room and table
-// gets the answer that specs/ defines. Rests on job, records, closure, answers and report.
+// gets the answer that specs/ defines. Rests on job, records, fill, closure, answers and recheck.
 ghost use mathlib.Core.Path.{_≡_};
 ghost use Prim.Native.Nat.{ℕ, _+_, _≤_, _<_};
 ghost use lib.ListN.{length};
@@ -18,7 +18,7 @@ use recheck::judge;
 use records::Record;
 use records::clear as blank_out;
 
-// Document 01's limits: the longest job, and the named places of the work table.
+// Document 01's limits: the longest job, and the named places of the work table and of the record table.
 pub const LONGEST: usize = 43008;
 
 pub const NAMED: usize = 32768;
@@ -41,6 +41,7 @@ pub struct Sight {
     pub records: usize,
 }
 
+// A number of two bytes, as a place.
 fn wide(x: u16) -> usize
     ensures { λ r. ⌜ r ≡ x ⌝ }
 {

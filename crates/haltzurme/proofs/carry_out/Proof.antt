@@ -3,7 +3,6 @@
 -- Assumes nothing.
 use mathlib.Core.Path.{_≡_, refl, sym, ap, subst, _∙_}
 use Prim.Native.Nat.{ℕ, _≤_, _<_, _^_}
-use native.Mathlib.Omega.{arith}
 use mathlib.Core.List.{List, [], _∷_}
 use lib.ListN.{length}
 use lib.Dec.{T as Holds}
@@ -44,7 +43,6 @@ use denote.Signature.{plain}
 use Rattle.records.specs.declared.Record.{Record}
 use Rattle.records.specs.Table.{Blanked}
 use Rattle.records.proofs.Rows.{R}
-use Rattle.records.proofs.Again.{LentAgain}
 use Rattle.records.proofs.Lent.{lend-on, take-back}
 use Rattle.records.proofs.clear as blank′
 use Rattle.records.proofs.clear.Symbol as blank-def

@@ -6,9 +6,6 @@ use Rattle.haltzurme.specs.Look.{unread, cramped, ready}
 use Rattle.haltzurme.proofs.look.Statement.{statement}
 use Rattle.haltzurme.proofs.look.Tie as tie
 use Rattle.haltzurme.proofs.look.Reads as reads
-use Rattle.haltzurme.proofs.look.Lts as lts
-use Rattle.job.proofs.number_of.Reads as number-of-reads
-use Rattle.job.proofs.read_job.Reads as read-job-reads
 use native.Mathlib.Omega.{arith}
 use denote.Ref.{now}
 
