@@ -1,3 +1,4 @@
 pub mod Clearing
 pub mod One
 pub mod Numbers
+pub mod Whole

@@ -1,3 +1,4 @@
 pub mod Run
 pub mod Look
 pub mod Alike
+pub mod Finish

@@ -26,8 +26,14 @@ pub struct Sight {
     pub ready: bool,
     pub number: u8,
     pub place: usize,
-    pub size: u16,
-    pub records: u16,
+    pub size: usize,
+    pub records: usize,
+}
+
+fn wide(x: u16) -> usize
+    ensures { λ r. ⌜ r ≡ x ⌝ }
+{
+    x as usize
 }
 
 // Numbers 3 to 9, in their order.
@@ -61,8 +67,8 @@ fn look(job: &[u8], room: usize) -> Sight
                     ready: true,
                     number: 0,
                     place: 0,
-                    size,
-                    records,
+                    size: wide(size),
+                    records: wide(records),
                 }
             }
         }
