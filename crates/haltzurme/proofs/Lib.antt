@@ -1,4 +1,5 @@
 pub mod Clearing
 pub mod One
+pub mod Numbers
 pub mod Whole
 pub mod Rest

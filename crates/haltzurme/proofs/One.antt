@@ -50,18 +50,18 @@ sound-alike (answered (apart n) s) (answered (because r) u) = absurd (n (reason-
 sound-alike (answered (apart n) s) (answered (apart n′) u) = alike.answered (field 133 []) (sound-alike s u)
 
 -- What is long enough is not short.
-lent-not : {job : List ℕ} {records : List Record} {work : List ℕ} → Lent job records work → (length records < 4000) ⊎ (length work < 32768) → ⊥
+pub lent-not : {job : List ℕ} {records : List Record} {work : List ℕ} → Lent job records work → (length records < 4000) ⊎ (length work < 32768) → ⊥
 lent-not i (inl h) = omega (arith, i .places)
 lent-not i (inr h) = omega (arith, i .numbers)
 
 -- Reading gives one answer.
-clash : {X : Reading} {n p N : ℕ} {items : List Item} → X ≡ refused n p → X ≡ accepted N items → ⊥
+pub clash : {X : Reading} {n p N : ℕ} {items : List Item} → X ≡ refused n p → X ≡ accepted N items → ⊥
 clash e f = let z : _≡_ {A = ℕ} 0 1 = cc in omega arith
 
-refused-one : {X : Reading} {n p n′ p′ : ℕ} → X ≡ refused n p → X ≡ refused n′ p′ → (n ≡ n′) × (p ≡ p′)
+pub refused-one : {X : Reading} {n p n′ p′ : ℕ} → X ≡ refused n p → X ≡ refused n′ p′ → (n ≡ n′) × (p ≡ p′)
 refused-one e f = (cc, cc)
 
-accepted-one : {X : Reading} {N N′ : ℕ} {items items′ : List Item} → X ≡ accepted N items → X ≡ accepted N′ items′ → (N ≡ N′) × (items ≡ items′)
+pub accepted-one : {X : Reading} {N N′ : ℕ} {items items′ : List Item} → X ≡ accepted N items → X ≡ accepted N′ items′ → (N ≡ N′) × (items ≡ items′)
 accepted-one e f = (cc, cc)
 
 -- So both need the same room.
