@@ -3,3 +3,4 @@ pub mod One
 pub mod Numbers
 pub mod Whole
 pub mod Rest
+pub mod Passing
