@@ -10,7 +10,7 @@ ghost use Rattle.fill.specs.Filling.{foundAt, Seeks, Filled};
 ghost use Rattle.fill.specs.Loading.{carry, Loadable, Carried};
 ghost use Rattle.fill.specs.Handing.{Handable, Handed};
 use job::Field;
-use job::field_at;
+use job::read;
 use meaning::RecordNo;
 use meaning::Tag;
 use records::Record;
@@ -67,7 +67,7 @@ fn nothing() -> Record
 fn look(job: &[u8], at: usize) -> Found
     ensures { λ r. ⌜ r ≡ foundAt at (fieldAt (now (job .entry)) at) ⌝ }
 {
-    let field = field_at(job, at);
+    let field = read(job, at);
     match field {
         Field::Equation(a, b) => Found {
             question: false,

@@ -1,21 +1,20 @@
 -- Two outcomes that meet the run's promise on the same lent things are one, but for the choice among reasons: reading is a function, the
 -- cases exclude each other, leaders, classes and idle records are one, and a table of a length whose places are all told is one.
 -- Assumes nothing.
-use Prim.Native.Nat.{ℕ, zero, suc, _+_, _≤_, _<_}
+use Prim.Native.Nat.{ℕ, zero, suc, _<_}
 use native.Mathlib.Omega.{arith}
-use mathlib.Core.Path.{_≡_, refl, sym, _∙_, ap, ap₂}
+use mathlib.Core.Path.{_≡_, refl, sym, _∙_, ap₂}
 use mathlib.Core.Logic.{_⊎_, inl, inr}
 use mathlib.Core.List.{List, [], _∷_, _++_}
 use lib.ListN.{length, getD, drop}
 use Rattle.meaning.specs.Following.{Rec}
 use Rattle.meaning.proofs.Decide.{leader-one}
 use Rattle.meaning.proofs.Laws.{classes-one, idles-one, reason-follows}
-use Rattle.job.specs.Items.{Item, noted, ask, explain, Reading, refused, accepted, recordsOf, neededRoom}
-use Rattle.job.specs.Reading.{reading}
+use Rattle.job.specs.Items.{Item, ask, Reading, refused, accepted, recordsOf, neededRoom}
 use Rattle.records.specs.declared.Record.{Record}
 use Rattle.records.specs.Table.{blank, Blanked}
-use Rattle.report.specs.Report.{numbers, field, Answers, led, because, apart, Totalled, total, Sound, totals, passed, answered}
-use Rattle.haltzurme.specs.Run.{Cleared, Lent, Emptied, Ran, long, narrow, unread, cramped, done}
+use Rattle.report.specs.Report.{numbers, field, led, because, apart, Totalled, total, Sound, totals, passed, answered}
+use Rattle.haltzurme.specs.Run.{Cleared, Lent, Ran, long, narrow, unread, cramped, done}
 use Rattle.haltzurme.specs.Alike.{Alike, same, reasoned, OneRun, equal, chosen}
 use Rattle.haltzurme.specs.Alike as alike
 
@@ -51,18 +50,18 @@ sound-alike (answered (apart n) s) (answered (because r) u) = absurd (n (reason-
 sound-alike (answered (apart n) s) (answered (apart n′) u) = alike.answered (field 133 []) (sound-alike s u)
 
 -- What is long enough is not short.
-lent-not : {job : List ℕ} {records : List Record} {work : List ℕ} → Lent job records work → (length records < 4000) ⊎ (length work < 32768) → ⊥
+pub lent-not : {job : List ℕ} {records : List Record} {work : List ℕ} → Lent job records work → (length records < 4000) ⊎ (length work < 32768) → ⊥
 lent-not i (inl h) = omega (arith, i .places)
 lent-not i (inr h) = omega (arith, i .numbers)
 
 -- Reading gives one answer.
-clash : {X : Reading} {n p N : ℕ} {items : List Item} → X ≡ refused n p → X ≡ accepted N items → ⊥
+pub clash : {X : Reading} {n p N : ℕ} {items : List Item} → X ≡ refused n p → X ≡ accepted N items → ⊥
 clash e f = let z : _≡_ {A = ℕ} 0 1 = cc in omega arith
 
-refused-one : {X : Reading} {n p n′ p′ : ℕ} → X ≡ refused n p → X ≡ refused n′ p′ → (n ≡ n′) × (p ≡ p′)
+pub refused-one : {X : Reading} {n p n′ p′ : ℕ} → X ≡ refused n p → X ≡ refused n′ p′ → (n ≡ n′) × (p ≡ p′)
 refused-one e f = (cc, cc)
 
-accepted-one : {X : Reading} {N N′ : ℕ} {items items′ : List Item} → X ≡ accepted N items → X ≡ accepted N′ items′ → (N ≡ N′) × (items ≡ items′)
+pub accepted-one : {X : Reading} {N N′ : ℕ} {items items′ : List Item} → X ≡ accepted N items → X ≡ accepted N′ items′ → (N ≡ N′) × (items ≡ items′)
 accepted-one e f = (cc, cc)
 
 -- So both need the same room.

@@ -1,3 +1,5 @@
 pub mod Run
 pub mod Look
 pub mod Alike
+pub mod Finish
+pub mod Recheck

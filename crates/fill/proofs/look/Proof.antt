@@ -10,8 +10,8 @@ use denote.Ref.{now}
 use Rattle.job.specs.Answer.{said}
 use Rattle.job.proofs.Reading.{field-whole}
 
-field-at-requires : tie.Need-field-at-requires
-field-at-requires c κs = search needs
+read-requires : tie.Need-read-requires
+read-requires c κs = search needs
 
 enum-known-field : tie.Need-enum-known-field
 enum-known-field c = search needs
@@ -22,7 +22,7 @@ equation-requires c κs = search needs
 add-t11 : tie.Need-add-t11
 add-t11 c =
     let s = c .before .before .before .before .before .before in
-    let e = sym (c .before .before .before .before .field-at .ensures) ∙ ap said (c .before .before .field .given .1) in
+    let e = sym (c .before .before .before .before .read .ensures) ∙ ap said (c .before .before .field .given .1) in
     record { fits = omega (arith, field-whole (now (s .args .job)) (s .args .at) _ tt e, s .good .0 .0) }
 
 enum-known-field-2 : tie.Need-enum-known-field-2
@@ -34,7 +34,7 @@ application-requires c κs = search needs
 add-t13 : tie.Need-add-t13
 add-t13 c =
     let s = c .before .before .before .before .before .before in
-    let e = sym (c .before .before .before .before .field-at .ensures) ∙ ap said (c .before .before .field2 .given .1) in
+    let e = sym (c .before .before .before .before .read .ensures) ∙ ap said (c .before .before .field2 .given .1) in
     record { fits = omega (arith, field-whole (now (s .args .job)) (s .args .at) _ tt e, s .good .0 .0) }
 
 enum-told : tie.Need-enum-told
@@ -46,7 +46,7 @@ nothing-requires c κs = search needs
 add-t15 : tie.Need-add-t15
 add-t15 c =
     let s = c .before .before .before .before .before in
-    let e = sym (c .before .before .before .field-at .ensures) ∙ ap said (c .before .enum-told .given .1) in
+    let e = sym (c .before .before .before .read .ensures) ∙ ap said (c .before .enum-told .given .1) in
     record { fits = omega (arith, field-whole (now (s .args .job)) (s .args .at) _ tt e, s .good .0 .0) }
 
 enum-told-2 : tie.Need-enum-told-2
@@ -58,7 +58,7 @@ nothing-requires-2 c κs = search needs
 add-t17 : tie.Need-add-t17
 add-t17 c =
     let s = c .before .before .before .before .before in
-    let e = sym (c .before .before .before .field-at .ensures) ∙ ap said (c .before .enum-told2 .given .1) in
+    let e = sym (c .before .before .before .read .ensures) ∙ ap said (c .before .enum-told2 .given .1) in
     record { fits = omega (arith, field-whole (now (s .args .job)) (s .args .at) _ tt e, s .good .0 .0) }
 
 enum-told-3 : tie.Need-enum-told-3
@@ -80,31 +80,31 @@ nothing-requires-5 : tie.Need-nothing-requires-5
 nothing-requires-5 c κs = search needs
 
 returns : tie.Need-returns
-returns c = rw (sym (c .before .before .before .before .field-at .ensures) ∙ ap said (c .before .before .field .given .1), c .equation .ensures)
+returns c = rw (sym (c .before .before .before .before .read .ensures) ∙ ap said (c .before .before .field .given .1), c .equation .ensures)
 
 returns-2 : tie.Need-returns-2
-returns-2 c = rw (sym (c .before .before .before .before .field-at .ensures) ∙ ap said (c .before .before .field2 .given .1), c .application .ensures)
+returns-2 c = rw (sym (c .before .before .before .before .read .ensures) ∙ ap said (c .before .before .field2 .given .1), c .application .ensures)
 
 returns-3 : tie.Need-returns-3
-returns-3 c = rw (sym (c .before .before .before .field-at .ensures) ∙ ap said (c .before .enum-told .given .1), c .nothing .ensures)
+returns-3 c = rw (sym (c .before .before .before .read .ensures) ∙ ap said (c .before .enum-told .given .1), c .nothing .ensures)
 
 returns-4 : tie.Need-returns-4
-returns-4 c = rw (sym (c .before .before .before .field-at .ensures) ∙ ap said (c .before .enum-told2 .given .1), c .nothing2 .ensures)
+returns-4 c = rw (sym (c .before .before .before .read .ensures) ∙ ap said (c .before .enum-told2 .given .1), c .nothing2 .ensures)
 
 returns-5 : tie.Need-returns-5
-returns-5 c = rw (sym (c .before .before .before .field-at .ensures) ∙ ap said (c .before .enum-told3 .given .1), c .nothing3 .ensures)
+returns-5 c = rw (sym (c .before .before .before .read .ensures) ∙ ap said (c .before .enum-told3 .given .1), c .nothing3 .ensures)
 
 returns-6 : tie.Need-returns-6
-returns-6 c = rw (sym (c .before .before .before .field-at .ensures) ∙ ap said (c .before .enum-told4 .given .1), c .nothing4 .ensures)
+returns-6 c = rw (sym (c .before .before .before .read .ensures) ∙ ap said (c .before .enum-told4 .given .1), c .nothing4 .ensures)
 
 returns-7 : tie.Need-returns-7
-returns-7 c = rw (sym (c .before .before .before .field-at .ensures) ∙ ap said (c .before .enum-told5 .given .1), c .nothing5 .ensures)
+returns-7 c = rw (sym (c .before .before .before .read .ensures) ∙ ap said (c .before .enum-told5 .given .1), c .nothing5 .ensures)
 
 pub look-spec : {M : Type 1} → statement M
 look-spec =
     tie.close
     (tie.spec
-    field-at-requires
+    read-requires
     enum-known-field
     equation-requires
     add-t11

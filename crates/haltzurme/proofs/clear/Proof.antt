@@ -4,9 +4,6 @@ use borrow.Author.Needs.{needs}
 use Rattle.haltzurme.proofs.Clearing.{cleared-part}
 use Rattle.haltzurme.proofs.clear.Statement.{statement}
 use Rattle.haltzurme.proofs.clear.Tie as tie
-use Rattle.haltzurme.proofs.clear.Reads as reads
-use Rattle.haltzurme.proofs.clear.Lts as lts
-use Rattle.haltzurme.proofs.wipe.Reads as wipe-reads
 use denote.Ref.{now}
 
 sub-wipe : tie.Need-sub-wipe

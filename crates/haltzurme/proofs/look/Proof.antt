@@ -6,9 +6,6 @@ use Rattle.haltzurme.specs.Look.{unread, cramped, ready}
 use Rattle.haltzurme.proofs.look.Statement.{statement}
 use Rattle.haltzurme.proofs.look.Tie as tie
 use Rattle.haltzurme.proofs.look.Reads as reads
-use Rattle.haltzurme.proofs.look.Lts as lts
-use Rattle.job.proofs.number_of.Reads as number-of-reads
-use Rattle.job.proofs.read_job.Reads as read-job-reads
 use native.Mathlib.Omega.{arith}
 use denote.Ref.{now}
 
@@ -24,6 +21,12 @@ number-of-requires c κs = search needs
 enum-known-size : tie.Need-enum-known-size
 enum-known-size c = search needs
 
+wide-requires : tie.Need-wide-requires
+wide-requires c κs = search needs
+
+wide-requires-2 : tie.Need-wide-requires-2
+wide-requires-2 c κs = search needs
+
 returns : tie.Need-returns
 returns c =
     let j = c .before .before .before .before in
@@ -37,9 +40,10 @@ returns-2 c =
 
 returns-3 : tie.Need-returns-3
 returns-3 c =
-    let j = c .before .before .before .before in
-    let t = told-accepted (now (j .before .before .args .job)) _ _ _ _ (rw (c .before .before .size .given .1) at (j .read-job .ensures)) in
-    rw (t .records) (ready (t .reads) (omega (arith, t .needed, c .if1 .left)))
+    let e = c .before .before in
+    let j = e .before .before .before .before in
+    let t = told-accepted (now (j .before .before .args .job)) _ _ _ _ (rw (e .before .before .size .given .1) at (j .read-job .ensures)) in
+    rw (c .before .wide .ensures, c .wide2 .ensures, t .records) (ready (t .reads) (omega (arith, t .needed, e .if1 .left)))
 
 pub look-spec : {M : Type 1} → statement M
 look-spec =
@@ -49,6 +53,8 @@ look-spec =
     enum-known-fault
     number-of-requires
     enum-known-size
+    wide-requires
+    wide-requires-2
     returns
     returns-2
     returns-3)

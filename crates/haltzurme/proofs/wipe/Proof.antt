@@ -10,8 +10,6 @@ use lib.ListN.{length, getD, set, length-set}
 use lib.Seq.{getD-set-same, getD-set-other}
 use Rattle.haltzurme.proofs.wipe.Statement.{statement}
 use Rattle.haltzurme.proofs.wipe.Tie as tie
-use Rattle.haltzurme.proofs.wipe.Reads as reads
-use Rattle.haltzurme.proofs.wipe.Lts as lts
 
 abbrev Inv-loop : tie.InvT-loop
 Inv-loop part₀ i₀ part i = (i ≤ length part₀) × (length part ≡ length part₀) × ((j : ℕ) → j < i → getD part j 0 ≡ 0)

@@ -1,0 +1,46 @@
+-- Document 01, "What is lent, and each refusal", 0 and 10 of the recheck: what the judge of a report answers, once the job has been
+-- accepted and its records closed.
+-- Assumes nothing.
+use Prim.Native.Nat.{ℕ, _-_}
+use mathlib.Core.Path.{_≡_}
+use mathlib.Core.List.{List, []}
+use lib.ListN.{length}
+use Rattle.meaning.specs.Following.{Rec, UpTo}
+use Rattle.meaning.specs.Totals.{Classes, Idles}
+use Rattle.job.specs.Items.{Item, Reading, refused, accepted, recordsOf}
+use Rattle.job.specs.Reading.{reading}
+use Rattle.job.specs.Standing.{Job}
+use Rattle.table.specs.Map.{recordsIn, Within}
+use Rattle.closure.specs.Past.{Past}
+use Rattle.report.specs.Report.{Sound}
+use Rattle.report.specs.Fault.{FaultAt}
+use Rattle.recheck.specs.declared.Judgement.{Judgement}
+use Rattle.recheck.specs.declared.Judgement.the-variants as j
+
+-- The items of a job that is accepted; a refused one has none.
+abbrev pub itemsOf : Reading → List Item
+itemsOf (refused n p) = []
+itemsOf (accepted N is) = is
+
+abbrev pub itemsIn : List ℕ → List Item
+itemsIn job = itemsOf (reading job)
+
+-- The job is accepted, and the table holds its records and what their closure left: the joins for every moment, and the totals.
+pub record Judgeable (job w : List ℕ) (N len joins idle : ℕ) : Type 0 where
+  pub accepted : Job job N (itemsIn job)
+  pub count : len ≡ length (recordsOf (itemsIn job))
+  pub held : recordsIn len w ≡ recordsOf (itemsIn job)
+  pub past : Past N len w joins
+  pub classes : Classes N (UpTo (recordsOf (itemsIn job)) len) (N - joins)
+  pub idles : Idles N (recordsOf (itemsIn job)) idle
+
+-- What is answered of the bytes of a report that are left, from a place of it on, for the items that are left: they are sound, or the
+-- first place at fault.
+pub data Verdict (N : ℕ) (rs : List Rec) (R : ℕ) (items : List Item) (at : ℕ) (bs : List ℕ) : Judgement → Type 0 where
+  sound : Sound N rs R items bs → Verdict N rs R items at bs j.Sound
+  fault : {p : ℕ} → FaultAt N rs R items at bs p → Verdict N rs R items at bs (j.Fault p)
+
+-- A report was judged: the answer is right for the whole of it, and the table's data are kept.
+pub record Judged (job report w w′ : List ℕ) (N : ℕ) (answer : Judgement) : Type 0 where
+  pub kept : Within 17003 31096 w w′
+  pub verdict : Verdict N (recordsOf (itemsIn job)) 0 (itemsIn job) 0 report answer

@@ -1,0 +1,4 @@
+pub mod Judging
+pub mod Right
+pub mod Lists
+pub mod Going

@@ -1,0 +1,80 @@
+-- Whether a right field stands at a place of the report, for one question at its moment or for the totals.
+-- Assumes nothing.
+use Prim.Native.Nat.{ℕ, _+_, _*_, _≤_, _<_}
+use mathlib.Core.Path.{_≡_}
+use mathlib.Core.Logic.{_↔_}
+use mathlib.Core.Bool.{Bool, true}
+use mathlib.Core.List.{List, [], _∷_}
+use lib.ListN.{length, drop}
+use Rattle.meaning.specs.Following.{Rec, Follows, UpTo}
+use Rattle.meaning.specs.Reasons.{FirstAt, Reason}
+use Rattle.job.specs.Items.{ask, explain}
+use Rattle.table.specs.Map.{recordsIn, Within}
+use Rattle.closure.specs.Past.{Past}
+use Rattle.report.specs.Report.{numbers, field, Answers}
+use Rattle.report.specs.Fault.{Stands}
+use Rattle.report.specs.Read.{Holds}
+use Rattle.meaning.specs.declared.Tag.{Tag}
+use Rattle.recheck.specs.declared.Closed.{Closed}
+use Rattle.recheck.specs.declared.Judgement.{Judgement}
+use Rattle.recheck.specs.declared.Judgement.the-variants as j
+use Rattle.recheck.specs.declared.Question.{Question}
+use Rattle.recheck.specs.declared.Passed.{Passed}
+use Rattle.recheck.specs.declared.Passed.the-variants.{To, Wrong}
+
+-- A question at its moment, among what the closure left.
+abbrev pub question : Closed → ℕ → Tag → Tag → Question
+question c before s t = record { size = c .size; len = c .len; joins = c .joins; before = before; s = s; t = t }
+
+-- The table holds what the question is about: N tags, all records with their joins, and the records before it among them.
+pub record Posed (w : List ℕ) (q : Question) : Type 0 where
+  pub past : Past (q .size) (q .len) w (q .joins)
+  pub early : q .before ≤ q .len
+  pub from : q .s .0 < q .size
+  pub to : q .t .0 < q .size
+
+-- The first k such that s and t are equal by records 1 to k, if it is not above R; one above R, if they are not equal by the first R.
+pub record Came (rs : List Rec) (R s t k : ℕ) : Type 0 where
+  pub then : k ≤ R → FirstAt rs s t k
+  pub never : R < k → Follows (UpTo rs R) s t → ⊥
+
+-- A right field stands at the place and the next one behind it; or none does.
+pub data RightAt (P : List ℕ → Type 0) (report : List ℕ) (at : ℕ) : Passed → Type 0 where
+  to : {f : List ℕ} {p : ℕ} → P f → Holds report at f → p ≡ at + length f → RightAt P report at (To p)
+  wrong : (Stands P (drop at report) → ⊥) → RightAt P report at Wrong
+
+-- The right fields for the two questions, by the records that the table holds.
+abbrev pub AskAnswer : List ℕ → Question → List ℕ → Type 0
+AskAnswer w q = Answers (q .size) (recordsIn (q .len) w) (q .before) (ask (q .s .0) (q .t .0))
+
+abbrev pub ExplainAnswer : List ℕ → Question → List ℕ → Type 0
+ExplainAnswer w q = Answers (q .size) (recordsIn (q .len) w) (q .before) (explain (q .s .0) (q .t .0))
+
+-- A test that is exact for A and writes only where a reason is looked for.
+pub record Deciding (A : Type 0) (w w′ : List ℕ) (answer : Bool) : Type 0 where
+  pub kept : Within 17003 31096 w w′
+  pub exact : (answer ≡ true) ↔ A
+
+-- An explain was looked at.
+pub record Explained (w w′ report : List ℕ) (at : ℕ) (q : Question) (answer : Passed) : Type 0 where
+  pub kept : Within 17003 31096 w w′
+  pub right : RightAt (ExplainAnswer w q) report at answer
+
+-- So many bytes at the place are the numbers of a reason.
+pub record Reasoned (w report : List ℕ) (at bytes : ℕ) (q : Question) : Type 0 where
+  pub list : List ℕ
+  pub all : 2 * length list ≡ bytes
+  pub stand : Holds report at (numbers list)
+  pub reason : Reason (q .size) (recordsIn (q .len) w) (q .before) (q .s .0) (q .t .0) list
+
+-- Where the first k is at hand and not above the records before the question.
+pub record Known (w : List ℕ) (q : Question) (k : ℕ) : Type 0 where
+  pub posed : Posed w q
+  pub early : k ≤ q .before
+  pub first : FirstAt (recordsIn (q .len) w) (q .s .0) (q .t .0) k
+
+-- The end of the report: these totals and nothing behind them; or a byte behind them; or not these totals.
+pub data Ended (report : List ℕ) (at classes idle : ℕ) : Judgement → Type 0 where
+  right : Holds report at (field 143 (numbers (classes ∷ idle ∷ []))) → length report ≡ at + 7 → Ended report at classes idle j.Sound
+  spare : {p : ℕ} → Holds report at (field 143 (numbers (classes ∷ idle ∷ []))) → at + 7 < length report → p ≡ at + 7 → Ended report at classes idle (j.Fault p)
+  wrong : {p : ℕ} → (Holds report at (field 143 (numbers (classes ∷ idle ∷ []))) → ⊥) → p ≡ at → Ended report at classes idle (j.Fault p)
