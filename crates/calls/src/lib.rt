@@ -1,0 +1,35 @@
+// The tool's two calls for a caller that holds no record table: each lends one of its own, 4,000 places that are blank. Document 01, "What is
+// lent, and each refusal". No call here has a condition on its caller. Rests on haltzurme.
+ghost use Rattle.calls.specs.Plain.{RanAlone, RecheckedAlone};
+use haltzurme::Answer;
+use haltzurme::Finding;
+use haltzurme::recheck;
+use haltzurme::run;
+use meaning::Tag;
+use records::Record;
+
+// Answers a job: the report comes to the front of the room.
+pub fn run_job(job: &[u8], room: &mut [u8], work: &mut [u16]) -> Answer
+    ensures { λ r. ⌜ RanAlone (now (job .entry)) (now (room .entry)) (now (work .entry)) (r .number) (r .place) (r .length) (now (room .exit)) (now (work .exit)) ⌝ }
+{
+    let mut records = [Record {
+        kind: 0,
+        a: Tag(0),
+        b: Tag(0),
+        c: Tag(0),
+    }; 4000];
+    run(job, room, &mut records, work)
+}
+
+// Rechecks a report.
+pub fn recheck_report(job: &[u8], report: &[u8], work: &mut [u16]) -> Finding
+    ensures { λ r. ⌜ RecheckedAlone (now (job .entry)) (now (report .entry)) (now (work .entry)) (r .number) (r .place) (now (work .exit)) ⌝ }
+{
+    let mut records = [Record {
+        kind: 0,
+        a: Tag(0),
+        b: Tag(0),
+        c: Tag(0),
+    }; 4000];
+    recheck(job, report, &mut records, work)
+}
