@@ -1,6 +1,6 @@
 // tagcheck: reads a job from standard input and writes its answers, one line an item, or the line of its refusal. Document 01, "The program".
-// It only reads, calls and writes: the run is haltzurme's, through alone; the text is tell's. Rests on these and on console.
-use alone::run_alone;
+// It only reads, calls and writes: the run is haltzurme's, through calls; the text is tell's. Rests on these and on console.
+use calls::run_job;
 use console::Got;
 use console::read_input;
 use console::write_error;
@@ -31,7 +31,7 @@ fn serve(job: &[u8]) {
     let work: &mut [u16] = &mut work_space;
     let mut text_space = [0u8; 206014];
     let text: &mut [u8] = &mut text_space;
-    let ran = run_alone(job, room, work);
+    let ran = run_job(job, room, work);
     let told = tell_answer(job, room, ran.number, ran.place, ran.length, text);
     write(text, told);
 }

@@ -1,7 +1,7 @@
 // tagreport: reads a job from standard input and writes its report's raw bytes; on a refusal the line `R number place` goes to standard error and
 // nothing to standard output. It only reads, calls and writes: the run is haltzurme's,
-// through alone. Rests on that, on lines and on console.
-use alone::run_alone;
+// through calls. Rests on that, on lines and on console.
+use calls::run_job;
 use console::Got;
 use console::read_input;
 use console::write_error;
@@ -31,7 +31,7 @@ fn serve(job: &[u8]) {
     let room: &mut [u8] = &mut room_space;
     let mut work_space = [0u16; 32768];
     let work: &mut [u16] = &mut work_space;
-    let ran = run_alone(job, room, work);
+    let ran = run_job(job, room, work);
     if ran.number != 0 {
         refuse(ran.number, ran.place);
     } else if !write_output_front(room, ran.length) {
