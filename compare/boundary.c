@@ -1,0 +1,70 @@
+/* Calls both functions of the static library on the inspector's job, with dirty tables and a dirty room, and checks every answer, every byte and every number. */
+#include <stdio.h>
+#include <stdlib.h>
+#include <string.h>
+
+#include "../include/haltzurme.h"
+
+static uint8_t job[50000], room[200];
+static uint16_t work[32768 + 5];
+
+static void expect(int holds, const char *what) {
+    if (!holds) {
+        printf("boundary: wrong: %s\n", what);
+        exit(1);
+    }
+}
+
+static void soil(void) {
+    for (size_t i = 0; i < sizeof room; i++) room[i] = (uint8_t)(i * 7 + 1);
+    for (size_t i = 0; i < 32768 + 5; i++) work[i] = (uint16_t)(i * 31 + 3);
+}
+
+static int soiled_room(size_t from) {
+    for (size_t i = from; i < sizeof room; i++)
+        if (room[i] != (uint8_t)(i * 7 + 1)) return 0;
+    return 1;
+}
+
+static int soiled_work(size_t from) {
+    for (size_t i = from; i < 32768 + 5; i++)
+        if (work[i] != (uint16_t)(i * 31 + 3)) return 0;
+    return 1;
+}
+
+static int zero_work(void) {
+    for (size_t i = 0; i < 32768; i++)
+        if (work[i]) return 0;
+    return 1;
+}
+
+int main(int count, char **words) {
+    expect(count == 2, "one argument, the inspector's job");
+    FILE *f = fopen(words[1], "rb");
+    expect(f != NULL, "the job can be opened");
+    size_t length = fread(job, 1, sizeof job, f), place = 77, size = 77;
+    fclose(f);
+    expect(length == 89, "the inspector's job has 89 bytes");
+
+    soil();
+    expect(haltzurme_run(job, length, room, 69, work, 32768 + 5, &place, &size) == 0 && place == 0 && size == 49, "69 bytes of room are enough, and the report has 49");
+    expect(soiled_room(49) && zero_work() && soiled_work(32768), "the room behind the report and the table's rest are as they were");
+    uint8_t report[50];
+    memcpy(report, room, 49);
+    report[49] = 0;
+
+    soil();
+    expect(haltzurme_recheck(job, length, report, 49, work, 32768, &place) == 0 && place == 0, "the report passes the recheck");
+    expect(zero_work() && soiled_work(32768), "the recheck clears the named places");
+    soil();
+    expect(haltzurme_recheck(job, length, report, 50, work, 32768, &place) == 10 && place == 49, "a spare byte is at fault where it stands");
+    soil();
+    expect(haltzurme_run(job, length, room, 68, work, 32768, &place, &size) == 9 && place == 0 && size == 0, "68 bytes of room give 9");
+    expect(soiled_room(0) && zero_work(), "and leave the room");
+    soil();
+    expect(haltzurme_run(job, length, room, 69, work, 32767, &place, &size) == 2 && soiled_room(0) && soiled_work(0), "32,767 numbers give 2, and nothing changes");
+    expect(haltzurme_run(job, 43009, room, 69, work, 32768, &place, &size) == 1 && soiled_room(0) && soiled_work(0), "43,009 bytes give 1, and nothing changes");
+    expect(haltzurme_run(job, 0, room, 69, work, 32768, &place, &size) == 3 && place == 0 && soiled_room(0) && zero_work(), "an empty job is refused by 3 at 0");
+    puts("boundary: ok");
+    return 0;
+}
