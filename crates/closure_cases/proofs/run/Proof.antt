@@ -22,47 +22,35 @@ loop-holds c = (omega arith, refl, desk-new (c .before .before .pre) (omega arit
 sub-loop : tie.Need-sub-loop Inv-loop μ-loop
 sub-loop c = search needs
 
-mul-act : tie.Need-mul-act Inv-loop μ-loop
-mul-act c = search needs
-
 shared-slice-read-act : tie.Need-shared-slice-read-act Inv-loop μ-loop
 shared-slice-read-act c = search needs
 
-add-wide : tie.Need-add-wide Inv-loop μ-loop
-add-wide c = search needs
+add-digit : tie.Need-add-digit Inv-loop μ-loop
+add-digit c = search needs
 
-mul-wide : tie.Need-mul-wide Inv-loop μ-loop
-mul-wide c = search needs
+shared-slice-read-digit : tie.Need-shared-slice-read-digit Inv-loop μ-loop
+shared-slice-read-digit c = search needs
 
-shared-slice-read-wide : tie.Need-shared-slice-read-wide Inv-loop μ-loop
-shared-slice-read-wide c = search needs
+digit-requires : tie.Need-digit-requires Inv-loop μ-loop
+digit-requires c κs = search needs
 
-wide-requires : tie.Need-wide-requires Inv-loop μ-loop
-wide-requires c κs = search needs
+add-digit-2 : tie.Need-add-digit-2 Inv-loop μ-loop
+add-digit-2 c = search needs
 
-add-wide-2 : tie.Need-add-wide-2 Inv-loop μ-loop
-add-wide-2 c = search needs
+shared-slice-read-digit-2 : tie.Need-shared-slice-read-digit-2 Inv-loop μ-loop
+shared-slice-read-digit-2 c = search needs
 
-mul-wide-2 : tie.Need-mul-wide-2 Inv-loop μ-loop
-mul-wide-2 c = search needs
+digit-requires-2 : tie.Need-digit-requires-2 Inv-loop μ-loop
+digit-requires-2 c κs = search needs
 
-shared-slice-read-wide-2 : tie.Need-shared-slice-read-wide-2 Inv-loop μ-loop
-shared-slice-read-wide-2 c = search needs
+add-digit-3 : tie.Need-add-digit-3 Inv-loop μ-loop
+add-digit-3 c = search needs
 
-wide-requires-2 : tie.Need-wide-requires-2 Inv-loop μ-loop
-wide-requires-2 c κs = search needs
+shared-slice-read-digit-3 : tie.Need-shared-slice-read-digit-3 Inv-loop μ-loop
+shared-slice-read-digit-3 c = search needs
 
-add-wide-3 : tie.Need-add-wide-3 Inv-loop μ-loop
-add-wide-3 c = search needs
-
-mul-wide-3 : tie.Need-mul-wide-3 Inv-loop μ-loop
-mul-wide-3 c = search needs
-
-shared-slice-read-wide-3 : tie.Need-shared-slice-read-wide-3 Inv-loop μ-loop
-shared-slice-read-wide-3 c = search needs
-
-wide-requires-3 : tie.Need-wide-requires-3 Inv-loop μ-loop
-wide-requires-3 c κs = search needs
+digit-requires-3 : tie.Need-digit-requires-3 Inv-loop μ-loop
+digit-requires-3 c κs = search needs
 
 act-requires : tie.Need-act-requires Inv-loop μ-loop
 act-requires c κs = c .before .before .before .before .before .before .before .before .before .loop .inv .2
@@ -90,20 +78,16 @@ run-spec =
     μ-loop
     loop-holds
     sub-loop
-    mul-act
     shared-slice-read-act
-    add-wide
-    mul-wide
-    shared-slice-read-wide
-    wide-requires
-    add-wide-2
-    mul-wide-2
-    shared-slice-read-wide-2
-    wide-requires-2
-    add-wide-3
-    mul-wide-3
-    shared-slice-read-wide-3
-    wide-requires-3
+    add-digit
+    shared-slice-read-digit
+    digit-requires
+    add-digit-2
+    shared-slice-read-digit-2
+    digit-requires-2
+    add-digit-3
+    shared-slice-read-digit-3
+    digit-requires-3
     act-requires
     add-i
     loop-less
