@@ -1,21 +1,21 @@
 -- A join that is due, in theory: the labels stay sound and count one class fewer, and the log with its forest takes it in. Older moments do not
 -- change, since the new link is younger than they are and the new join stands behind theirs.
 -- Assumes nothing.
-use Prim.Native.Nat.{ℕ, zero, suc, _+_, _≤_, _<_}
+use Prim.Native.Nat.{ℕ, zero, suc, _≤_, _<_}
 use native.Mathlib.Omega.{arith}
 use native.Mathlib.Decide.{ℕ-discrete}
 use mathlib.Core.Path.{_≡_, refl, sym, ap, _∙_, fun-ext}
-use mathlib.Core.Logic.{_≢_, _⊎_, inl, inr}
-use mathlib.Core.Bool.{Bool, true, false, cond}
+use mathlib.Core.Logic.{_⊎_, inl, inr}
+use mathlib.Core.Bool.{Bool, true, false}
 use mathlib.Core.List.{List, List·Memᴰ, List·Memᴰ·head, List·Memᴰ·tail, List·Memᴰ·append-cases}
 use lib.Dec.{leb}
 use borrow.Author.Tests.{lt-leb}
-use Rattle.meaning.specs.Following.{Rec, Follows, same, flip, chain, given, congruent, Only}
-use Rattle.meaning.specs.Joins.{Join, Why, Grounds, equation, applications, Joined, Justified, all, numbersOf, used, tick, count, put}
-use Rattle.meaning.specs.Labels.{Labels, into, classes}
-use Rattle.meaning.specs.Forest.{root, History}
+use Rattle.meaning.specs.Following.{Rec, Follows, flip, chain, given, congruent, Only}
+use Rattle.meaning.specs.Joins.{Join, Why, Grounds, equation, applications, Joined, all, numbersOf, used, tick, count, put}
+use Rattle.meaning.specs.Labels.{into}
+use Rattle.meaning.specs.Forest.{root}
 use Rattle.meaning.proofs.Log.{put-hit, put-miss, grounds-more, linked-same, used-same}
-use Rattle.meaning.proofs.Relabel.{into-hit, into-miss, count-same, relabel-labels, relabel-classes, agree-same, Ends}
+use Rattle.meaning.proofs.Relabel.{into-hit, into-miss, count-same, agree-same, Ends}
 use Rattle.meaning.proofs.Forest.{root-up, root-labels, link-before, link-after, history-link}
 use Rattle.meaning.proofs.Exact.{Settled}
 use Rattle.closure.specs.State.{Logged, Due}

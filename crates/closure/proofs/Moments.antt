@@ -4,33 +4,32 @@
 use Prim.Native.Nat.{ℕ, zero, suc, _+_, _-_, _≤_, _<_}
 use native.Mathlib.Omega.{arith}
 use native.Mathlib.Numerals.{add-one}
-use native.Mathlib.Decide.{ℕ-discrete, decLt}
+use native.Mathlib.Decide.{ℕ-discrete}
 use mathlib.Core.Path.{_≡_, refl, sym, ap, _∙_, fun-ext}
 use mathlib.Core.Logic.{_≢_, _↔_, _⊎_, inl, inr}
-use mathlib.Core.Bool.{Bool, true, false, cond}
+use mathlib.Core.Bool.{Bool, true, false}
 use mathlib.Core.List.{List, [], _∷_, List·Memᴰ, List·Memᴰ·not-nil, Memᴰ·append-left}
-use lib.Dec.{T, eqb, leb}
+use lib.Dec.{eqb, leb}
 use borrow.Author.Tests.{eq-eqb, eqb-true, le-leb}
-use lib.ListN.{length}
-use Rattle.meaning.specs.Following.{Rec, At, Follows, same, flip, chain, Those, UpTo, Only}
-use Rattle.meaning.specs.Joins.{Join, all, used, count}
+use Rattle.meaning.specs.Following.{Rec, Follows, same, flip, chain, Those, UpTo, Only}
+use Rattle.meaning.specs.Joins.{count}
 use Rattle.meaning.specs.Labels.{Labels, classes}
 use Rattle.meaning.specs.Forest.{root, History}
-use Rattle.meaning.specs.Totals.{Count, one, skip, Classes, Idle, Idles}
+use Rattle.meaning.specs.Totals.{Count, one, skip, Classes, Idle}
 use Rattle.meaning.proofs.Close.{more-of, Closed, complete}
 use Rattle.meaning.proofs.Relabel.{start-classes}
 use Rattle.meaning.proofs.Short.{some-class}
 use Rattle.meaning.proofs.Forest.{root-stop, root-labels, history-start}
 use Rattle.meaning.proofs.Exact.{Settled, settled-classes, idle-iff}
-use Rattle.table.specs.Map.{seen, parentOf, ageOf, whenOf, listOf, labelOf, nextOf, headOf, gather, joinAt, recAt, recordsIn, listIn, Loaded, Within}
+use Rattle.table.specs.Map.{parentOf, ageOf, whenOf, listOf, labelOf, nextOf, headOf, gather, joinAt, recAt, recordsIn, listIn, Loaded, Within}
 use Rattle.table.proofs.Frame.{seen-within, within-trans, within-wider, length-gather, gather-in, in-gather}
-use Rattle.closure.specs.Past.{ageAfter, leaderAfter, Past}
+use Rattle.closure.specs.Past.{ageAfter, leaderAfter}
 use Rattle.closure.specs.Closing.{Closing, Listed, Entailing}
 use Rattle.closure.specs.declared.Task.{Task}
-use Rattle.closure.specs.State.{Logged, State, Kept, Chained, Valid, Stepping, Stepped, Rested, Fresh, Begun, whole, Between, Admitted, eqnOf, keyOf, resOf}
+use Rattle.closure.specs.State.{Logged, State, Stepping, Stepped, Rested, Fresh, Begun, whole, Between, Admitted, eqnOf, keyOf, resOf}
 use Rattle.closure.proofs.Chain.{chains-none, filled-none}
 use Rattle.closure.proofs.Rows.{valid-closed}
-use Rattle.closure.proofs.Views.{loaded-same, records-same, listed-same, lefts, rights, results}
+use Rattle.closure.proofs.Views.{loaded-same, records-same, listed-same}
 use Rattle.closure.proofs.Steps.{kept-trans}
 
 -- Each tag its own label: no class is joined.

@@ -1,17 +1,15 @@
 -- The records that the list names, read off the columns: a place of the list is a record of the table, and labels that the table of chains does not
 -- contradict are closed under the list's records.
 -- Assumes nothing.
-use Prim.Native.Nat.{ℕ, zero, suc, _+_, _-_, _*_, _≤_, _<_}
+use Prim.Native.Nat.{ℕ, suc, _+_, _-_, _*_, _≤_, _<_}
 use native.Mathlib.Omega.{arith}
-use mathlib.Core.Path.{_≡_, refl, sym, ap, _∙_}
+use mathlib.Core.Path.{_≡_, refl, sym, _∙_}
 use mathlib.Core.Bool.{Bool, true, false, cond}
-use mathlib.Core.List.{List, [], _∷_, List·Memᴰ}
-use lib.Dec.{eqb}
-use lib.ListN.{length, getD}
-use Rattle.meaning.specs.Following.{Rec, eq, app, At, Those, Only}
+use mathlib.Core.List.{List, List·Memᴰ}
+use Rattle.meaning.specs.Following.{Rec, eq, app, At, Only}
 use Rattle.meaning.proofs.Close.{Closed, closed-by}
 use Rattle.meaning.proofs.Reference.{Small}
-use Rattle.table.specs.Map.{leftOf, rightOf, resultOf, listOf, labelOf, nextOf, headOf, gather, recAt, recordsIn, listIn, Loaded}
+use Rattle.table.specs.Map.{leftOf, rightOf, resultOf, listOf, labelOf, nextOf, headOf, recAt, recordsIn, listIn}
 use Rattle.table.proofs.Frame.{length-gather, getD-gather, gather-in, in-gather}
 use Rattle.closure.specs.Chain.{look}
 use Rattle.closure.specs.Closing.{Listed}

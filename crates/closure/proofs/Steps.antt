@@ -1,23 +1,23 @@
 -- A record is met: an equation or an application whose labels agree leaves the table valid, one whose labels differ has a due join, and an application that
 -- is not found goes to the head of its chain. A join leaves the chains well formed, though the labels that they are keyed by have changed.
 -- Assumes nothing.
-use Prim.Native.Nat.{ℕ, zero, suc, _+_, _-_, _*_, _%_, _≤_, _<_}
+use Prim.Native.Nat.{ℕ, suc, _+_, _-_, _*_, _%_, _≤_, _<_}
 use native.Mathlib.Omega.{arith}
 use native.Mathlib.Numerals.{add-one}
 use mathlib.Core.Path.{_≡_, refl, sym, ap, _∙_, fun-ext}
-use mathlib.Core.Logic.{_≢_, _⊎_, inl, inr}
-use mathlib.Core.Bool.{Bool, true, false, cond}
-use mathlib.Core.List.{List, [], _∷_, List·Memᴰ, List·Memᴰ·eq-of-singleton, List·Memᴰ·cases-cons}
+use mathlib.Core.Logic.{_≢_, inl, inr}
+use mathlib.Core.Bool.{Bool, true, false}
+use mathlib.Core.List.{List, List·Memᴰ·eq-of-singleton, List·Memᴰ·cases-cons}
 use lib.Dec.{eqb}
 use borrow.Author.Tests.{ne-eqb}
 use lib.ListN.{length, set, length-set}
-use Rattle.meaning.specs.Following.{Rec, eq, app, At}
-use Rattle.meaning.specs.Joins.{Join, by, cong, equation, applications, put}
-use Rattle.table.specs.Map.{leftOf, rightOf, resultOf, listOf, labelOf, nextOf, headOf, joinBy, recAt, recordsIn, listIn, Within}
-use Rattle.table.proofs.Frame.{seen-in, seen-out, seen-within, within-refl, within-trans, within-wider, within-set}
+use Rattle.meaning.specs.Following.{app}
+use Rattle.meaning.specs.Joins.{cong, equation, applications, put}
+use Rattle.table.specs.Map.{leftOf, rightOf, resultOf, listOf, labelOf, nextOf, headOf, joinBy, Within}
+use Rattle.table.proofs.Frame.{seen-in, seen-out, within-refl, within-trans, within-set}
 use Rattle.closure.specs.declared.Task.{Task}
-use Rattle.closure.specs.Chain.{seekTo, hits, look, Chains, Filled}
-use Rattle.closure.specs.State.{State, Kept, Chained, Valid, Due, Joining, Joined, Stepping, Stepped, Unifying, Passed, Cleared, eqnOf, keyOf, resOf}
+use Rattle.closure.specs.Chain.{seekTo, hits, look}
+use Rattle.closure.specs.State.{State, Kept, Valid, Joining, Joined, Stepping, Stepped, Unifying, Passed, Cleared, eqnOf, keyOf, resOf}
 use Rattle.closure.proofs.Chain.{chains-none, filled-none, chains-up, below, look-hit, filled-pass, filled-skip, chains-insert, filled-insert}
 use Rattle.closure.proofs.Rows.{row-left, row-right, row-result, row-in, row-at}
 use Rattle.closure.proofs.Views.{wide-frame, results, chains-state, chains-kept, eqns-same, keys-same, ress-same, equals-same}
@@ -80,13 +80,10 @@ module _ {t : Task} {w : List ℕ} {p i n : ℕ} (u : Unifying t w p i n) where
   unify-app = hit .1 .1
 
   pub unify-stay : (k k′ : ℕ) → k ≡ listOf w (p - 1) → k′ ≡ listOf w i → labelOf w (resultOf w k) ≡ labelOf w (resultOf w k′) → Stepped t w i n w n
-  unify-stay k k′ ek ek′ e = stay (u .step) (λ v. record {
-    filled = filled-skip (eqnOf w) (keyOf w) (resOf w) (headOf w) (nextOf w) i (u .step .chains) (rw (u .found) at (u .hit)) (rw (u .found) at (same (rw (ek, ek′) at e))) (v .filled);
+  unify-stay k k′ ek ek′ e = let q : resOf w (p - 1) ≡ resOf w i = rw (ek, ek′) at e in stay (u .step) (λ v. record {
+    filled = filled-skip (eqnOf w) (keyOf w) (resOf w) (headOf w) (nextOf w) i (u .step .chains) (rw (u .found) at (u .hit)) (rw (u .found) at q) (v .filled);
     equal = below (λ j. eqnOf w j ≡ true → labelOf w (leftOf w (listOf w j)) ≡ labelOf w (rightOf w (listOf w j))) i (v .equal) (λ r. let z : _≡_ {A = ℕ} 0 1 = cc (u .app) in absurd (omega arith));
   })
-    where
-      same : resOf w (p - 1) ≡ resOf w i → resOf w (p - 1) ≡ resOf w i
-      same e = e
 
   right-fits : (j : ℕ) → j < t .places → labelOf w (rightOf w (listOf w j)) < 65536
   right-fits j l = omega (arith, u .step .state .labels .low (rightOf w (listOf w j)), row-right (u .step .state .listed) j l, u .step .state .listed .loaded .few)

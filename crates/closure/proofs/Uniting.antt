@@ -1,24 +1,24 @@
 -- A join in the table: the relabelled part, and the five stores that keep it, are what the theory of a due join speaks of.
 -- Assumes nothing.
-use Prim.Native.Nat.{ℕ, zero, suc, _+_, _≤_, _<_}
+use Prim.Native.Nat.{ℕ, suc, _+_, _≤_, _<_}
 use native.Mathlib.Omega.{arith}
 use native.Mathlib.Decide.{ℕ-discrete}
-use mathlib.Core.Path.{_≡_, refl, sym, ap, _∙_, fun-ext}
-use mathlib.Core.Logic.{_≢_, _⊎_, inl, inr}
-use mathlib.Core.Bool.{Bool, true, false, cond}
+use mathlib.Core.Path.{_≡_, sym, ap, _∙_, fun-ext}
+use mathlib.Core.Logic.{inl, inr}
+use mathlib.Core.Bool.{true, false}
 use mathlib.Core.List.{List}
 use lib.Dec.{T}
 use lib.ListN.{length, set, length-set}
 use Rattle.meaning.specs.Joins.{Join, put}
-use Rattle.meaning.specs.Labels.{Labels, into, classes}
+use Rattle.meaning.specs.Labels.{into, classes}
 use Rattle.meaning.proofs.Log.{put-hit, put-miss}
 use Rattle.meaning.proofs.Relabel.{relabel-labels, relabel-classes, Ends}
-use Rattle.table.specs.Map.{seen, parentOf, ageOf, firstOf, secondOf, whenOf, listOf, labelOf, nextOf, headOf, joinBy, joinAt, Within}
+use Rattle.table.specs.Map.{parentOf, ageOf, firstOf, secondOf, whenOf, listOf, labelOf, joinBy, joinAt, Within}
 use Rattle.table.proofs.Frame.{seen-in, seen-out, seen-within, within-trans, within-wider, within-set}
 use Rattle.closure.specs.declared.Task.{Task}
-use Rattle.closure.specs.State.{State, Kept, Joining, Joined, Relabelled, noted}
+use Rattle.closure.specs.State.{State, Joining, Joined, Relabelled, noted}
 use Rattle.closure.proofs.Joining.{sound-join, logged-join}
-use Rattle.closure.proofs.Views.{wide-frame, lefts, rights, results, listed-same}
+use Rattle.closure.proofs.Views.{lefts, rights, results, listed-same}
 
 -- The five stores.
 module _ (w : List ℕ) (long : 32768 ≤ length w) (lo hi n k k′ m : ℕ) (high : hi < 1000) (young : n < 1000) where

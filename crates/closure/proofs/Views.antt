@@ -1,29 +1,25 @@
 -- What the regions show after a part of the table was written: a frame keeps each region outside it, and so the records, the list, the joins and the
 -- state that are read off the regions.
 -- Assumes nothing.
-use Prim.Native.Nat.{ℕ, zero, suc, _+_, _-_, _≤_, _<_}
+use Prim.Native.Nat.{ℕ, _+_, _-_, _≤_, _<_}
 use native.Mathlib.Omega.{arith}
-use native.Mathlib.Decide.{ℕ-discrete, decLt}
-use mathlib.Core.Path.{_≡_, refl, sym, ap, _∙_, fun-ext}
-use mathlib.Core.Logic.{_≢_, _⊎_, inl, inr}
+use native.Mathlib.Decide.{decLt}
+use mathlib.Core.Path.{_≡_, sym, ap, _∙_, fun-ext}
+use mathlib.Core.Logic.{_⊎_, inl, inr}
 use mathlib.Core.Bool.{Bool, true, false, cond}
-use mathlib.Core.List.{List, [], _∷_, _++_, map, append-assoc}
-use lib.Dec.{T, ltb}
+use mathlib.Core.List.{List, _++_, map, append-assoc}
 use lib.ListN.{length, take, drop, getD, length-append, length-drop, length-map, List·getD-map, List·getD-append}
-use lib.Seq.{getD-take, getD-drop, length-take-le, drop-at, drop-drop, take-at, getD-append-add}
+use lib.Seq.{getD-take, getD-drop, length-take-le, drop-at, drop-drop}
 use Rattle.meaning.specs.Labels.{into}
 use Rattle.meaning.proofs.Relabel.{into-miss, getD-any}
-use Rattle.table.specs.Map.{seen, leftOf, rightOf, resultOf, parentOf, ageOf, firstOf, secondOf, whenOf, listOf, labelOf, nextOf, headOf, joinAt, recAt, recordsIn, listIn, Loaded, Within}
+use Rattle.table.specs.Map.{leftOf, rightOf, resultOf, parentOf, ageOf, firstOf, secondOf, whenOf, listOf, labelOf, nextOf, headOf, joinAt, recordsIn, Loaded, Within}
 use Rattle.table.proofs.Frame.{seen-at, seen-past, seen-within, within-trans, within-wider}
 use Rattle.closure.specs.Closing.{Listed}
 use Rattle.closure.specs.declared.Task.{Task}
-use Rattle.closure.specs.State.{State, Fills, CountsUp, Relabelled, Fresh, Cleared, Unlinked, Enlisted, Begun, Kept, Chained, Valid, eqnOf, keyOf, resOf}
+use Rattle.closure.specs.State.{State, Fills, CountsUp, Relabelled, Fresh, Cleared, Unlinked, Enlisted, Begun, Kept, eqnOf, keyOf, resOf}
 
 -- A part that was lent comes back as the list v.
 module _ (at n : ℕ) (w v : List ℕ) (fits : at + n ≤ length w) (size : length v ≡ n) where
-  back : List ℕ
-  back = take at w ++ (v ++ drop n (drop at w))
-
   front : length (take at w) ≡ at
   front = length-take-le at w (omega arith)
 

@@ -246,12 +246,12 @@ fn unify(work: &mut [u16], task: Task, p: usize, i: usize, joins: usize) -> usiz
     let r = table::listed(work, i);
     let s = table::result(work, q);
     let t = table::result(work, r);
-    let a = table::label(work, s);
-    let b = table::label(work, t);
-    if a.0 == b.0 {
+    let c = table::label(work, s);
+    let d = table::label(work, t);
+    if c.0 == d.0 {
         return joins;
     }
-    join(work, task, joins, q, r, a, b);
+    join(work, task, joins, q, r, c, d);
     joins + 1
 }
 

@@ -13,7 +13,8 @@ use lib.ListN.{length}
 use Rattle.meaning.specs.Following.{Rec, eq, app}
 use Rattle.job.specs.Items.{Item, noted, ask, explain, Reading, refused, accepted, recordsOf, questionsOf, neededRoom}
 use Rattle.job.specs.Reading.{Kind, first, record-eq, record-app, question-ask, question-explain, last, unknown, Field, bad, header, item, end, known, bodyLength, bodyAt, laterKind, kindAt, byteAt, numberAt, orElse, ofKind, fieldAt, counted, numbered, checked, with, behind, spanOf, onward, readFrom, reading}
-use Rattle.job.specs.Answer.{refusal, spanOfField, summary, tally, tallied, told, Going, Turned, on, done}
+use Rattle.job.specs.Answer.{refusal, spanOfField, summary, told}
+use Rattle.job.specs.Turns.{tally, tallied, Going, Turned, on, done}
 use Rattle.job.specs.declared.Seen.{Seen}
 use Rattle.job.specs.declared.Answer.{Answer}
 use Rattle.job.specs.declared.Turn.the-variants.{On, Done}

@@ -1,13 +1,11 @@
 -- What the answers of the code say in document 01's words: the number and the place of each refusal, and what is known of a job that
 -- is accepted.
 -- Assumes nothing.
-use Prim.Native.Nat.{ℕ, suc, _+_, _*_, _≤_, _<_}
-use mathlib.Core.Path.{_≡_}
-use mathlib.Core.List.{List}
+use Prim.Native.Nat.{ℕ}
 use lib.ListN.{length}
 use Rattle.meaning.specs.Following.{eq, app}
 use Rattle.job.specs.Items.{noted, ask, explain, Reading, refused, accepted, recordsOf, questionsOf, neededRoom}
-use Rattle.job.specs.Reading.{Kind, first, record-eq, record-app, question-ask, question-explain, last, unknown, Field, bad, header, item, end, spanOf, readFrom}
+use Rattle.job.specs.Reading.{Kind, first, record-eq, record-app, question-ask, question-explain, last, unknown, Field, bad, header, item, end, spanOf}
 use Rattle.job.specs.declared.Fault.{Fault}
 use Rattle.job.specs.declared.Fault.the-variants.{Cut, Misplaced, Misfit, OutOfRange, TooMany, Trailing}
 use Rattle.job.specs.declared.Kind.{Kind as KindCode}
@@ -16,9 +14,6 @@ use Rattle.job.specs.declared.Field.{Field as FieldCode}
 use Rattle.job.specs.declared.Field.the-variants.{Bad, Header, Equation, Application, Ask, Explain, End}
 use Rattle.job.specs.declared.Answer.{Answer}
 use Rattle.job.specs.declared.Answer.the-variants.{Refused, Accepted}
-use Rattle.job.specs.declared.Seen.{Seen}
-use Rattle.job.specs.declared.Turn.{Turn}
-use Rattle.job.specs.declared.Turn.the-variants.{On, Done}
 
 -- The refusals of reading by document 01's numbers.
 abbrev pub numberOf : Fault → ℕ
@@ -69,24 +64,3 @@ summary (accepted N is) = acceptance N (length (recordsOf is)) (questionsOf is) 
 abbrev pub told : Answer → Summary
 told (Refused f p) = refusal (numberOf f) p
 told (Accepted N R Q room) = acceptance N R Q room
-
--- The summary of what was seen and of what is still to be read.
-abbrev pub tally : ℕ → ℕ → ℕ → Reading → Summary
-tally R Q room (refused n p) = refusal n p
-tally R Q room (accepted N is) = acceptance N (R + length (recordsOf is)) (Q + questionsOf is) (room + neededRoom N R is)
-
-abbrev pub tallied : ℕ → List ℕ → Seen → Summary
-tallied fuel job s = tally (s .records) (s .questions) (s .room) (readFrom fuel job (s .size) (s .records) (s .questions) (s .at))
-
--- What has been seen stands within the job and within the limits.
-pub record Going (job : List ℕ) (s : Seen) : Type 0 where
-  pub within : s .at ≤ length job
-  pub size : s .size ≤ 1000
-  pub records : s .records ≤ 4000
-  pub questions : s .questions ≤ 1000
-  pub room : s .room ≤ 4000 * s .questions
-
--- One field more: reading goes on behind it with the same outcome, or that outcome is known.
-pub data Turned (job : List ℕ) (s : Seen) : Turn → Type 0 where
-  on : {t : Seen} → s .at < t .at → Going job t → ((fuel : ℕ) → tallied (suc fuel) job s ≡ tallied fuel job t) → Turned job s (On t)
-  done : {r : Answer} → ((fuel : ℕ) → tallied (suc fuel) job s ≡ told r) → Turned job s (Done r)

@@ -2,7 +2,7 @@
 -- Assumes nothing.
 use Prim.Native.Nat.{ℕ, suc, _+_, _*_, _-_, min}
 use mathlib.Core.List.{List, [], _∷_}
-use Rattle.meaning.specs.Following.{Rec}
+use Rattle.meaning.specs.Following.{Rec, eq, app}
 
 -- A field behind the first one: a record (kinds 01 and 02), or one of the two questions (03 ask, 04 explain) on s and t.
 pub data Item : Type 0 where
@@ -35,3 +35,22 @@ neededRoom N R [] = 7
 neededRoom N R (noted r ∷ is) = neededRoom N (suc R) is
 neededRoom N R (ask s t ∷ is) = 7 + neededRoom N R is
 neededRoom N R (explain s t ∷ is) = 3 + 2 * min R (2 * (N - 1)) + neededRoom N R is
+
+-- The tags of an item, a record's or a question's.
+abbrev pub tagsOf : Item → List ℕ
+tagsOf (noted (eq a b)) = a ∷ b ∷ []
+tagsOf (noted (app a b c)) = a ∷ b ∷ c ∷ []
+tagsOf (ask s t) = s ∷ t ∷ []
+tagsOf (explain s t) = s ∷ t ∷ []
+
+-- A question and the number of records before it.
+pub record Asked : Type 0 where
+  pub before : ℕ
+  pub question : Item
+
+-- The questions in the order they stand, with R the records before the items.
+abbrev pub askedOf : ℕ → List Item → List Asked
+askedOf R [] = []
+askedOf R (noted r ∷ is) = askedOf (suc R) is
+askedOf R (ask s t ∷ is) = record { before = R; question = ask s t } ∷ askedOf R is
+askedOf R (explain s t ∷ is) = record { before = R; question = explain s t } ∷ askedOf R is

@@ -6,8 +6,9 @@ ghost use Prim.Native.Nat.{_+_, _*_, _-_, _≤_, _<_, min};
 ghost use mathlib.Core.Bool.{_&&_};
 ghost use lib.Dec.{ltb, leb};
 ghost use lib.ListN.{length};
-ghost use Rattle.job.specs.Reading.{numberAt, kindAt, laterKind, known, bodyLength, bodyAt, ofKind, fieldAt, counted, numbered, checked, behind, reading};
-ghost use Rattle.job.specs.Answer.{numberOf, kindOf, said, spanOfField, told, summary, tally, Going, Turned};
+ghost use Rattle.job.specs.Reading.{numberAt, kindAt, laterKind, known, bodyLength, bodyAt, ofKind, fieldAt, orElse, counted, numbered, checked, behind, reading};
+ghost use Rattle.job.specs.Answer.{numberOf, kindOf, said, spanOfField, told, summary};
+ghost use Rattle.job.specs.Turns.{tally, Going, Turned};
 use meaning::Tag;
 
 // At most so many records, so many questions, and so many tags.
@@ -16,6 +17,11 @@ const MOST_RECORDS: u16 = 4000;
 const MOST_QUESTIONS: u16 = 1000;
 
 const MOST_TAGS: u16 = 1000;
+
+// The room that the report needs for the totals, and for an ask.
+const ROOM_OF_TOTALS: usize = 7;
+
+const ROOM_OF_ASK: usize = 7;
 
 // Why a job is refused, in the order of document 01's numbers, 3 to 8.
 pub enum Fault {
@@ -143,6 +149,13 @@ fn tag(job: &[u8], at: usize) -> Tag
     Tag(number(job, at))
 }
 
+// Whether a tag is one of a job with so many.
+fn is_below(tag: Tag, size: u16) -> bool
+    ensures { λ r. ⌜ r ≡ ltb (tag .0) size ⌝ }
+{
+    tag.0 < size
+}
+
 // The body of a kind, at a place where all of it is there.
 fn body(job: &[u8], at: usize, kind: Kind) -> Field
     requires { ⌜ at + bodyLength (kindOf kind) ≤ length (now job) ⌝ }
@@ -236,12 +249,6 @@ fn is_size(n: u16) -> bool
     if 0 < n { n <= MOST_TAGS } else { false }
 }
 
-fn is_below(tag: Tag, size: u16) -> bool
-    ensures { λ r. ⌜ r ≡ ltb (tag .0) size ⌝ }
-{
-    tag.0 < size
-}
-
 fn are_below(a: Tag, b: Tag, size: u16) -> bool
     ensures { λ r. ⌜ r ≡ (ltb (a .0) size && ltb (b .0) size) ⌝ }
 {
@@ -277,19 +284,20 @@ fn is_numbered(size: u16, field: Field) -> bool
     }
 }
 
+// The field where a test holds, and else a fault.
+fn or_else(holds: bool, fault: Fault, field: Field) -> Field
+    ensures { λ r. ⌜ said r ≡ orElse holds (numberOf fault) (said field) ⌝ }
+{
+    if holds { field } else { Field::Bad(fault) }
+}
+
 // A field with its count limit and its numbers tested, in this order.
 fn allowed(size: u16, records: u16, questions: u16, field: Field) -> Field
     ensures { λ r. ⌜ said r ≡ checked size records questions (said field) ⌝ }
 {
-    if is_counted(records, questions, field) {
-        if is_numbered(size, field) {
-            field
-        } else {
-            Field::Bad(Fault::OutOfRange)
-        }
-    } else {
-        Field::Bad(Fault::TooMany)
-    }
+    let few = is_counted(records, questions, field);
+    let low = is_numbered(size, field);
+    or_else(few, Fault::TooMany, or_else(low, Fault::OutOfRange, field))
 }
 
 // What reading a job comes to.
@@ -348,7 +356,7 @@ fn ended(job: &[u8], s: Seen) -> Answer
             size: s.size,
             records: s.records,
             questions: s.questions,
-            room: s.room + 7,
+            room: s.room + ROOM_OF_TOTALS,
         }
     } else {
         Answer::Refused {
@@ -393,7 +401,7 @@ fn advance(job: &[u8], s: Seen) -> Turn
             size: s.size,
             records: s.records,
             questions: s.questions + 1,
-            room: s.room + 7,
+            room: s.room + ROOM_OF_ASK,
         }),
         Field::Explain(_, _) => Turn::On(Seen {
             at: at + 7,

@@ -110,8 +110,8 @@ first-at f h = record { then = f; before = λ n l g. h (more-of (λ m i. omega a
 -- .. there is only one, ..
 pub first-one : {rs : List Rec} {s t k k′ : ℕ} → FirstAt rs s t k → FirstAt rs s t k′ → k ≡ k′
 first-one {k = k} {k′ = k′} f f′ =
-    let a : ¬ (k < k′) = λ l. f′ .before k l (f .then) in
-    let b : ¬ (k′ < k) = λ l. f .before k′ l (f′ .then) in
+    let a : ¬ (k < k′) = λ l. f′ .before k (omega arith) (f .then) in
+    let b : ¬ (k′ < k) = λ l. f .before k′ (omega arith) (f′ .then) in
     omega arith
 
 -- .. and a rising list within 1..k+1 that entails, where 1..k do not, ends with it.

@@ -1,6 +1,6 @@
 -- The laws that later layers cite of the definitions themselves: what is one, what is decided, what stays among the tags of a job, and that there
 -- is a reason wherever equality follows. Each puts together what the other files prove. Assumes nothing.
-use Prim.Native.Nat.{ℕ, zero, suc, _≤_, _<_, _*_, _-_}
+use Prim.Native.Nat.{ℕ, zero, suc, _≤_, _<_}
 use native.Mathlib.Omega.{arith}
 use native.Mathlib.Decide.{ℕ-discrete}
 use mathlib.Core.Path.{_≡_}
@@ -18,7 +18,7 @@ use Rattle.meaning.proofs.Close.{more, more-of}
 use Rattle.meaning.proofs.Count.{count-one, count-most}
 use Rattle.meaning.proofs.Reference.{Small}
 use Rattle.meaning.proofs.Rising.{numbers, numbers-rise, numbers-in}
-use Rattle.meaning.proofs.Short.{among, among-in, in-among, unspared-tight}
+use Rattle.meaning.proofs.Short.{among, among-in, in-among}
 use Rattle.meaning.proofs.Decide.{decFollows, decUpTo, decReason}
 use Rattle.meaning.proofs.Trim.{trim-start, trim-drop, trim-keep, trim-same, drop-bit}
 use Rattle.meaning.proofs.Exact.{first-at, reason-of, reason-same}
@@ -71,11 +71,6 @@ leader-low {s = s} h = h .least s same
 -- What has a reason follows from the records before the question.
 pub reason-follows : {N : ℕ} {rs : List Rec} {R s t : ℕ} {L : List ℕ} → Reason N rs R s t L → Follows (UpTo rs R) s t
 reason-follows h = more-of (h .stand) (h .entails)
-
--- A reason has at most 2(N-C) numbers, with C the number of classes at the question.
-pub reason-tight : {N : ℕ} {rs : List Rec} {R s t : ℕ} {L : List ℕ} {C : ℕ} → ((i : ℕ) → i < length rs → Small N (getD rs i (eq 0 0)))
-    → Reason N rs R s t L → Classes N (UpTo rs R) C → length L ≤ 2 * (N - C)
-reason-tight {N} {rs} {R} {s} {t} {L} {C} small h c = unspared-tight N rs small s t L (h .rising) (h .entails) (h .unspared) (λ k. k ≤ R) C (h .stand) c
 
 -- Where equality follows there is a first k ..
 pub first-there : (rs : List Rec) (R s t : ℕ) → Follows (UpTo rs R) s t → (k : ℕ) × (k ≤ R) × FirstAt rs s t k

@@ -7,10 +7,10 @@ pub mod Count
 pub mod Leaders
 pub mod Reference
 pub mod Short
-pub mod Decide
-pub mod Cases
 pub mod Exact
+pub mod Decide
 pub mod Laws
+pub mod Cases
 pub mod Forest
 pub mod Walk
 pub mod Table

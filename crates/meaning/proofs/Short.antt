@@ -10,8 +10,8 @@ use mathlib.Core.List.{List, [], _∷_, List·Memᴰ, List·Memᴰ·head, List·
 use lib.Dec.{T, eqb}
 use borrow.Author.Tests.{eq-eqb, eqb-true}
 use lib.ListN.{length, getD}
-use Rattle.meaning.specs.Following.{Rec, eq, Follows, Those, Only, Without}
-use Rattle.meaning.specs.Reasons.{Above}
+use Rattle.meaning.specs.Following.{Rec, eq, Follows, Those, UpTo, Only, Without}
+use Rattle.meaning.specs.Reasons.{Above, Reason}
 use Rattle.meaning.specs.Joins.{used, all, count, tick}
 use Rattle.meaning.specs.Labels.{Labels, classes}
 use Rattle.meaning.specs.Totals.{Classes}
@@ -92,3 +92,8 @@ module _ (N : ℕ) (rs : List Rec) (small : (i : ℕ) → i < length rs → Smal
       go : Dec (0 < N) → length L ≤ 2 * (N - 1)
       go (yes h) = omega (arith, own, some-class N (st .f) (st .labels) h)
       go (no h) = omega (arith, own)
+
+-- A reason has at most 2(N-C) numbers, with C the number of classes at the question.
+pub reason-tight : {N : ℕ} {rs : List Rec} {R s t : ℕ} {L : List ℕ} {C : ℕ} → ((i : ℕ) → i < length rs → Small N (getD rs i (eq 0 0)))
+    → Reason N rs R s t L → Classes N (UpTo rs R) C → length L ≤ 2 * (N - C)
+reason-tight {N} {rs} {R} {s} {t} {L} {C} small h c = unspared-tight N rs small s t L (h .rising) (h .entails) (h .unspared) (λ k. k ≤ R) C (h .stand) c

@@ -93,7 +93,7 @@ pub last-is-first : (rs : List Rec) (s t k : ℕ) (L : List ℕ) → FirstAt rs 
 last-is-first rs s t k L f a u e = go (decLt (lastOf 0 L) k)
   where
     go : Dec (lastOf 0 L < k) → lastOf 0 L ≡ k
-    go (yes l) = absurd (f .before (lastOf 0 L) l (more-of (member-le-last 0 L a) e))
+    go (yes l) = absurd (f .before (lastOf 0 L) (omega arith) (more-of (member-le-last 0 L a) e))
     go (no l) = omega (arith, last-le 0 k L (omega arith) u)
 
 -- A set held as a table of bits, with one bit cleared.

@@ -1,12 +1,12 @@
 -- Climbing from two tags at once, the older link first, until they stand on one tag: the last link taken is the newest join between
 -- them, since before it the two had different leaders at every age. Assumes nothing.
-use Prim.Native.Nat.{ℕ, zero, suc, _≤_, _<_, _+_}
+use Prim.Native.Nat.{ℕ, suc, _≤_, _<_}
 use native.Mathlib.Omega.{arith}
-use native.Mathlib.Decide.{ℕ-discrete, decLt}
-use mathlib.Core.Path.{_≡_, refl, sym, _∙_, ap}
+use native.Mathlib.Decide.{decLt}
+use mathlib.Core.Path.{_≡_, refl, sym, _∙_}
 use mathlib.Core.Logic.{_≢_, _⊎_, inl, inr}
 use Rattle.meaning.specs.Forest.{root, Links}
-use Rattle.meaning.proofs.Forest.{root-stop, root-up, root-ind, climb-stay, climb-up}
+use Rattle.meaning.proofs.Forest.{root-stop, climb-stay, climb-up}
 
 -- x and y are the leaders of s and t at the age `reached`, which is one more than the newest link taken, and at no earlier age had
 -- the two one leader.

@@ -1,28 +1,28 @@
 -- Crossing the newest join between two tags leaves two pairs that older joins bring together, one on each side; a join of two
 -- applications leaves their argument pairs. So marks that support themselves still do when a join is marked after these. Assumes nothing.
-use Prim.Native.Nat.{ℕ, zero, suc, _+_, _≤_, _<_}
+use Prim.Native.Nat.{ℕ, suc, _+_, _≤_, _<_}
 use native.Mathlib.Omega.{arith}
 use native.Mathlib.Decide.{ℕ-discrete, decLt}
 use mathlib.Core.Path.{_≡_, refl, sym, _∙_, ap, fun-ext}
 use mathlib.Core.Logic.{_≢_, _⊎_, inl, inr}
-use mathlib.Core.Bool.{Bool, true, false}
+use mathlib.Core.Bool.{Bool, true}
 use mathlib.Core.List.{List}
-use lib.Dec.{T, eqb}
+use lib.Dec.{eqb}
 use borrow.Author.Tests.{eq-eqb}
 use lib.ListN.{length, set}
 use Rattle.meaning.specs.Following.{Rec}
-use Rattle.meaning.specs.Joins.{Join, Joined, Linked, over, Supported, put}
+use Rattle.meaning.specs.Joins.{Join, Linked, over, Supported, put}
 use Rattle.meaning.specs.Walk.{Walked}
 use Rattle.meaning.proofs.Forest.{newest}
 use Rattle.meaning.proofs.Log.{linked-refl, linked-sym, linked-trans, linked-more, linked-up, put-hit, put-miss}
-use Rattle.meaning.proofs.Walk.{walk-same, walk-flip, walk-by, walk-cong}
+use Rattle.meaning.proofs.Walk.{walk-same, walk-by, walk-cong}
 use Rattle.table.specs.Map.{leftOf, rightOf, parentOf, ageOf, firstOf, secondOf, markOf, joinAt, recordsIn, Within}
 use Rattle.table.proofs.Frame.{seen-in, within-refl, within-trans, within-wider, within-set}
 use Rattle.closure.specs.Past.{Past}
 use Rattle.reasons.specs.Meeting.{leaderAt, Met}
-use Rattle.reasons.specs.Tracing.{marked, Holds, Together, Crossed, Ended, Sided, Caused, Traced, Unmarked}
+use Rattle.reasons.specs.Tracing.{marked, Holds, Together, Crossed, Sided, Caused, Traced, Unmarked}
 use Rattle.reasons.proofs.Kept.{kept-parents, kept-ages, kept-records, kept-joins, kept-past, kept-holds, holds-fewer}
-use Rattle.reasons.proofs.Known.{Stands, One, Two, join-one, join-two}
+use Rattle.reasons.proofs.Known.{join-one, join-two}
 
 -- The numbers of a join that is there are in their ranges.
 pub record Ranged (w : List ℕ) (b : ℕ) : Type 0 where

@@ -1,20 +1,16 @@
 -- What lies before the list is not written while a reason is made: so the past stays, with its records, joins and links.
 -- Each region is one function, and equal functions say the same. Assumes nothing.
-use Prim.Native.Nat.{ℕ, suc, _+_, _≤_, _<_}
+use Prim.Native.Nat.{ℕ, suc, _≤_, _<_}
 use native.Mathlib.Omega.{arith}
-use mathlib.Core.Path.{_≡_, refl, sym, _∙_, ap, fun-ext}
+use mathlib.Core.Path.{_≡_, ap, fun-ext}
 use mathlib.Core.Logic.{inl, inr}
-use mathlib.Core.Bool.{Bool, true, false, cond}
 use mathlib.Core.List.{List}
 use lib.Dec.{eqb, leb}
-use lib.ListN.{length}
-use Rattle.meaning.specs.Following.{Rec, eq, app}
-use Rattle.meaning.specs.Joins.{Join, Justified, Supported, count}
+use Rattle.meaning.specs.Following.{Rec}
+use Rattle.meaning.specs.Joins.{Join, Justified, count}
 use Rattle.meaning.specs.Forest.{root, Links, History}
-use Rattle.meaning.specs.Walk.{Walked}
 use Rattle.meaning.proofs.Exact.{Settled}
-use Rattle.meaning.proofs.Reference.{Small}
-use Rattle.table.specs.Map.{leftOf, rightOf, resultOf, parentOf, ageOf, firstOf, secondOf, whenOf, recAt, recordsIn, joinBy, joinAt, gather, Loaded, Within}
+use Rattle.table.specs.Map.{leftOf, rightOf, resultOf, parentOf, ageOf, firstOf, secondOf, whenOf, recAt, recordsIn, joinAt, Loaded, Within}
 use Rattle.table.proofs.Frame.{seen-within, gather-same}
 use Rattle.closure.specs.Past.{Past}
 use Rattle.reasons.specs.Meeting.{Forested}

@@ -1,19 +1,17 @@
 -- A join of the past has its records in the columns: their tags are tags, and where there are two, older joins bring their arguments
 -- together. All of it is read off what justifies the join. Assumes nothing.
-use Prim.Native.Nat.{ℕ, suc, _+_, _≤_, _<_}
+use Prim.Native.Nat.{ℕ, suc, _≤_, _<_}
 use native.Mathlib.Omega.{arith}
-use native.Mathlib.Decide.{ℕ-discrete}
-use mathlib.Core.Path.{_≡_, refl, sym, _∙_, ap}
-use mathlib.Core.Logic.{_≢_, inl, inr}
+use mathlib.Core.Path.{_≡_, refl, sym, _∙_}
+use mathlib.Core.Logic.{_≢_}
 use mathlib.Core.Bool.{Bool, true, false, cond}
 use mathlib.Core.List.{List}
 use lib.Dec.{eqb}
 use borrow.Author.Tests.{eq-eqb, ne-eqb}
-use lib.ListN.{length, getD}
 use Rattle.meaning.specs.Following.{Rec, eq, app, At}
 use Rattle.meaning.specs.Joins.{Why, by, cong, Join, Joined, Grounds, equation, applications}
 use Rattle.meaning.proofs.Reference.{Small}
-use Rattle.table.specs.Map.{leftOf, rightOf, resultOf, firstOf, secondOf, recAt, recordsIn, joinBy, joinAt, gather, Loaded}
+use Rattle.table.specs.Map.{leftOf, rightOf, resultOf, firstOf, secondOf, recAt, recordsIn, joinAt, Loaded}
 use Rattle.table.proofs.Frame.{length-gather, getD-gather}
 use Rattle.closure.specs.Past.{Past}
 

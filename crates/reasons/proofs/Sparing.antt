@@ -1,16 +1,16 @@
 -- A record that is tried goes if the others make s and t equal, and stays if they do not: either way what is left makes them equal,
 -- and nothing that stays can be spared, also not later, when less is left. Assumes nothing.
-use Prim.Native.Nat.{ℕ, zero, suc, _+_, _-_, _≤_, _<_}
+use Prim.Native.Nat.{ℕ, suc, _+_, _-_, _≤_, _<_}
 use native.Mathlib.Omega.{arith}
-use native.Mathlib.Decide.{ℕ-discrete, decLt, decLe}
+use native.Mathlib.Decide.{ℕ-discrete, decLt}
 use mathlib.Core.Path.{_≡_, refl, sym, _∙_, ap}
-use mathlib.Core.Logic.{_≢_, _↔_, _⊎_, inl, inr}
+use mathlib.Core.Logic.{_≢_, _⊎_, inl, inr}
 use mathlib.Core.Bool.{Bool, true, false}
-use mathlib.Core.List.{List, [], _∷_, _++_, List·Memᴰ, List·Memᴰ·head, List·Memᴰ·append-cases, List·Memᴰ·eq-of-singleton, List·Memᴰ·not-nil, Memᴰ·append-left, Memᴰ·append-right}
+use mathlib.Core.List.{List, [], _∷_, List·Memᴰ, List·Memᴰ·head, List·Memᴰ·append-cases, List·Memᴰ·eq-of-singleton, List·Memᴰ·not-nil, Memᴰ·append-left, Memᴰ·append-right}
 use lib.ListN.{length, set}
-use Rattle.meaning.specs.Following.{Rec, Follows, Those, Only, Without}
+use Rattle.meaning.specs.Following.{Follows, Those}
 use Rattle.meaning.proofs.Close.{more-of}
-use Rattle.table.specs.Map.{gather, listOf, listIn, recordsIn, Loaded, Within}
+use Rattle.table.specs.Map.{listOf, listIn, recordsIn, Within}
 use Rattle.table.proofs.Frame.{seen-within, gather-same, gather-in, in-gather, within-refl, within-trans, within-wider, within-set}
 use Rattle.closure.specs.Closing.{Listed, Entailing}
 use Rattle.reasons.specs.Listing.{waitingIn}

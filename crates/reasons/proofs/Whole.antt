@@ -1,33 +1,32 @@
 -- Marks, list, trimming and order together give a reason: the marked joins up to the newest one link the two tags, their records are at
 -- most that join's, and no record that is kept can be spared. Assumes nothing.
-use Prim.Native.Nat.{ℕ, zero, suc, _+_, _*_, _≤_, _<_}
+use Prim.Native.Nat.{ℕ, zero, suc, _≤_, _<_}
 use native.Mathlib.Omega.{arith}
 use native.Mathlib.Decide.{ℕ-discrete, decLt, decLe}
-use mathlib.Core.Path.{_≡_, refl, sym, _∙_, ap}
-use mathlib.Core.Logic.{_≢_, _↔_, _⊎_, inl, inr}
+use mathlib.Core.Path.{_≡_, ap}
+use mathlib.Core.Logic.{_≢_, _↔_, inl, inr}
 use mathlib.Core.Bool.{Bool, true, false}
-use mathlib.Core.List.{List, [], _∷_, _++_, List·Memᴰ, List·Memᴰ·append-cases, List·Memᴰ·cases-cons, List·Memᴰ·eq-of-singleton, List·Memᴰ·not-nil, Memᴰ·append-left, Memᴰ·append-right}
-use lib.Dec.{T}
+use mathlib.Core.List.{List, [], _∷_, List·Memᴰ, List·Memᴰ·append-cases, List·Memᴰ·cases-cons, List·Memᴰ·eq-of-singleton, List·Memᴰ·not-nil, Memᴰ·append-left, Memᴰ·append-right}
 use lib.ListN.{length, getD}
-use Rattle.meaning.specs.Following.{Rec, eq, Follows, UpTo, Only, Those, Without}
-use Rattle.meaning.specs.Reasons.{Above, FirstAt, Reason}
-use Rattle.meaning.specs.Joins.{Why, by, cong, Join, Supported, Linked, numbersOf, keep, used, all}
+use Rattle.meaning.specs.Following.{Rec, eq}
+use Rattle.meaning.specs.Reasons.{Reason}
+use Rattle.meaning.specs.Joins.{Join, numbersOf, keep, used, all}
 use Rattle.meaning.specs.Trim.{Trimmed}
 use Rattle.meaning.specs.Walk.{Walked}
 use Rattle.meaning.proofs.Log.{linked-follows}
 use Rattle.meaning.proofs.Reference.{Small}
 use Rattle.meaning.proofs.Exact.{reason-of, reason-same}
-use Rattle.table.specs.Map.{gather, whenOf, firstOf, secondOf, listOf, listIn, recAt, recordsIn, joinAt, Loaded, Within}
+use Rattle.table.specs.Map.{whenOf, firstOf, secondOf, listOf, listIn, recAt, recordsIn, joinAt, Loaded, Within}
 use Rattle.table.proofs.Frame.{length-gather, getD-gather, gather-in, within-refl, within-trans, within-wider}
 use Rattle.closure.specs.Past.{Past, ageAfter}
-use Rattle.reasons.specs.Meeting.{leaderAt, Met}
+use Rattle.reasons.specs.Meeting.{Met}
 use Rattle.reasons.specs.Tracing.{marked, Holds, Together, Traced, Unmarked}
 use Rattle.reasons.specs.Listing.{waitingIn, Gathered}
 use Rattle.reasons.specs.Trimming.{Pruned, Followed}
 use Rattle.reasons.specs.Rising.{Numbered, Sorted}
-use Rattle.reasons.specs.Explaining.{Question, Says, Explained, Joining, Reasoned}
+use Rattle.reasons.specs.Explaining.{Question, Explained, Joining, Reasoned}
 use Rattle.reasons.specs.declared.Answer.the-variants.{Because, Apart}
-use Rattle.reasons.proofs.Kept.{kept-records, kept-joins, kept-past, kept-loaded, kept-holds}
+use Rattle.reasons.proofs.Kept.{kept-records, kept-joins, kept-past, kept-loaded}
 use Rattle.reasons.proofs.Known.{join-one, join-two}
 use Rattle.reasons.proofs.Moments.{met-first, met-join, met-later, met-never, made-by}
 use Rattle.reasons.proofs.Crossing.{kept-leader, unmarked-supported}

@@ -1,8 +1,7 @@
 -- The promise of the whole: for two tags that are equal by the records before a question, the list in the table is a reason; for two
 -- that are not, the answer says so. Document 01, "Reasons", and kinds 84 and 85 of its report.
 -- Assumes nothing.
-use Prim.Native.Nat.{ℕ, suc, _≤_, _<_}
-use mathlib.Core.Path.{_≡_}
+use Prim.Native.Nat.{ℕ, _≤_, _<_}
 use mathlib.Core.Logic.{_≢_}
 use mathlib.Core.List.{List}
 use Rattle.meaning.specs.Following.{Rec, Follows, UpTo}

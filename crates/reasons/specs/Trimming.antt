@@ -5,7 +5,7 @@ use Prim.Native.Nat.{ℕ, suc, _+_, _≤_, _<_}
 use mathlib.Core.Path.{_≡_}
 use mathlib.Core.Logic.{_≢_, _⊎_}
 use mathlib.Core.List.{List, List·Memᴰ}
-use Rattle.meaning.specs.Following.{Rec, Follows, Those, Only, Without}
+use Rattle.meaning.specs.Following.{Follows, Those, Only, Without}
 use Rattle.table.specs.Map.{listOf, listIn, recordsIn, Loaded, Within}
 use Rattle.reasons.specs.Listing.{waitingIn}
 

@@ -1,11 +1,11 @@
 -- The bytes of numbers and fields: how many they are, and that they can be told apart: a number is its two bytes, and a field
 -- says its own length, so that what stands behind it is known where it is.
 -- Assumes nothing.
-use Prim.Native.Nat.{ℕ, suc, _+_, _*_, _/_, _%_, _<_}
+use Prim.Native.Nat.{ℕ, _+_, _*_, _/_, _%_, _<_}
 use native.Mathlib.Omega.{arith}
-use mathlib.Core.Path.{_≡_, refl, sym, _∙_, ap}
+use mathlib.Core.Path.{_≡_, refl}
 use mathlib.Core.List.{List, [], _∷_, _++_}
-use lib.ListN.{length, length-append}
+use lib.ListN.{length}
 use Rattle.report.specs.Report.{two, numbers, front, field}
 
 pub length-two : (n : ℕ) → length (two n) ≡ 2

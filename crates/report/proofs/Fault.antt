@@ -1,13 +1,13 @@
 -- A report is sound or has a fault, never both, and the first place at fault is one: right fields say their own length, so that the bytes
 -- leave no choice of where the next one begins.
 -- Assumes nothing.
-use Prim.Native.Nat.{ℕ, suc, _+_, _≤_}
+use Prim.Native.Nat.{ℕ, _+_, _≤_}
 use native.Mathlib.Omega.{arith}
 use mathlib.Core.Path.{_≡_, refl, sym, _∙_, subst}
 use mathlib.Core.List.{List, [], _∷_, _++_, append-nil}
 use lib.ListN.{length, length-append}
 use Rattle.meaning.specs.Following.{Rec}
-use Rattle.job.specs.Items.{Item, noted, ask, explain}
+use Rattle.job.specs.Items.{Item}
 use Rattle.report.specs.Report.{numbers, field, Answers, led, because, apart, Totalled, total, Sound, totals, passed, answered}
 use Rattle.report.specs.Fault.{Stands, stands, FaultAt, past, behind, leaders, reason, closing, spare}
 use Rattle.report.proofs.Bytes.{field-one}

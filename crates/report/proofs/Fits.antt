@@ -1,15 +1,15 @@
 -- A sound report is no longer than the room that document 01 calls needed: the numbers of a reason rise within 1 to R, so that they are
 -- at most R many, and by the last point of a reason they are at most 2(N-1).
 -- Assumes nothing.
-use Prim.Native.Nat.{ℕ, zero, suc, _+_, _*_, _-_, _≤_, _<_, min}
+use Prim.Native.Nat.{ℕ, _+_, _*_, _-_, _≤_, min}
 use native.Mathlib.Omega.{arith}
 use mathlib.Core.Path.{_≡_, refl}
-use mathlib.Core.List.{List, [], _∷_, _++_, List·Memᴰ, List·Memᴰ·head, List·Memᴰ·tail}
+use mathlib.Core.List.{List, [], _∷_, List·Memᴰ, List·Memᴰ·head, List·Memᴰ·tail}
 use lib.ListN.{length, length-append}
 use Rattle.meaning.specs.Following.{Rec}
 use Rattle.meaning.specs.Reasons.{Above, Reason}
 use Rattle.job.specs.Items.{Item, noted, ask, explain, neededRoom}
-use Rattle.report.specs.Report.{numbers, field, Answers, led, because, apart, Totalled, total, Sound, totals, passed, answered}
+use Rattle.report.specs.Report.{numbers, Answers, led, because, apart, Totalled, total, Sound, totals, passed, answered}
 use Rattle.report.proofs.Bytes.{length-numbers, length-field}
 
 -- Rising numbers above m and up to R are at most R - m many.

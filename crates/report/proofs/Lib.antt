@@ -5,3 +5,5 @@ pub mod Written
 pub mod Fault
 pub mod Read
 pub mod Listing
+pub mod Right
+pub mod Decided

@@ -1,17 +1,17 @@
 -- Reading a reason into the list: the next number comes behind those that are there, which stay as they are.
 -- Assumes nothing.
-use Prim.Native.Nat.{ℕ, suc, _+_, _*_, _≤_, _<_}
+use Prim.Native.Nat.{ℕ, _+_, _*_, _≤_, _<_}
 use native.Mathlib.Omega.{arith}
 use native.Mathlib.Numerals.{add-one}
-use mathlib.Core.Path.{_≡_, refl, sym, _∙_, ap, subst}
-use mathlib.Core.List.{List, [], _∷_, _++_, append-nil}
+use mathlib.Core.Path.{_≡_}
+use mathlib.Core.List.{List, [], _∷_, _++_}
 use lib.ListN.{length, set}
 use Rattle.meaning.specs.Joins.{put}
 use Rattle.meaning.proofs.Log.{put-hit, put-miss}
-use Rattle.table.specs.Map.{listOf, listIn, gather, Within}
+use Rattle.table.specs.Map.{listOf, listIn, gather}
 use Rattle.table.proofs.Frame.{seen-in, within-refl, within-trans, within-set, gather-same}
 use Rattle.report.specs.Report.{two, numbers}
-use Rattle.report.specs.Read.{Holds, Placed, ListRead}
+use Rattle.report.specs.Read.{Placed, ListRead}
 use Rattle.report.proofs.Bytes.{numbers-append}
 use Rattle.report.proofs.Read.{holds-none, holds-both}
 use Rattle.report.proofs.Written.{length-list}

@@ -1,6 +1,6 @@
 -- Bytes that stand at a place can be cut and joined, and two pieces of one length that stand there are one.
 -- Assumes nothing.
-use Prim.Native.Nat.{ℕ, suc, _+_, _*_, _-_, _≤_, _<_}
+use Prim.Native.Nat.{ℕ, suc, _+_, _-_, _≤_, _<_}
 use native.Mathlib.Omega.{arith}
 use native.Mathlib.Numerals.{add-one}
 use mathlib.Core.Path.{_≡_, refl, sym, _∙_, ap, subst}
@@ -13,9 +13,7 @@ use lib.ListN.{length, take, drop, getD, length-append, length-drop, take-append
 use lib.Seq.{drop-cons, drop-drop, drop-append-seam, length-take-le}
 use Rattle.job.specs.Reading.{numberAt}
 use Rattle.report.specs.Report.{two, numbers, front, field}
-use Rattle.report.specs.Fault.{Stands, stands}
 use Rattle.report.specs.Read.{Holds, FrontAt, whole, none}
-use Rattle.report.specs.declared.Front.{Front}
 use Rattle.report.specs.declared.Front.the-variants.{Field, Cut}
 use Rattle.report.proofs.Bytes.{two-of, two-one, append-one, length-two, length-numbers, length-field}
 

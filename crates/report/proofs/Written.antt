@@ -1,16 +1,16 @@
 -- What the writer's steps come to: a front and the numbers laid behind it one by one are the field.
 -- Assumes nothing.
-use Prim.Native.Nat.{ℕ, suc, _+_, _*_, _≤_}
+use Prim.Native.Nat.{ℕ, _+_, _*_, _≤_}
 use native.Mathlib.Omega.{arith}
 use native.Mathlib.Numerals.{add-one}
 use mathlib.Core.Path.{_≡_, refl, sym, _∙_, ap}
-use mathlib.Core.List.{List, [], _∷_, _++_, append-nil}
+use mathlib.Core.List.{List, [], _∷_, _++_}
 use lib.ListN.{length, set}
 use Rattle.table.specs.Map.{listOf, listIn}
 use Rattle.table.proofs.Frame.{length-gather}
 use Rattle.report.specs.Report.{two, numbers, front, field, laid}
 use Rattle.report.proofs.Bytes.{length-numbers, numbers-append}
-use Rattle.report.proofs.Laid.{laid-sets, length-laid, laid-then}
+use Rattle.report.proofs.Laid.{laid-sets, laid-then}
 
 pub front-laid : (at kind size : ℕ) (room w : List ℕ) → at + 3 ≤ length room → w ≡ laid (at + 1) (two size) (set room at kind) → w ≡ laid at (front kind size) room
 unfolding front two

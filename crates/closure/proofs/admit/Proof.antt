@@ -1,17 +1,9 @@
+-- `admit` meets its contract. The record is listed and met; if it made a join, all of the list is closed again.
+-- Assumes nothing.
 use borrow.Author.Needs.{needs}
+use native.Mathlib.Omega.{arith}
 use Rattle.closure.proofs.admit.Statement.{statement}
 use Rattle.closure.proofs.admit.Tie as tie
-use Rattle.closure.proofs.admit.Reads as reads
-use Rattle.closure.proofs.admit.Lts as lts
-use Rattle.closure.proofs.settle.Reads as settle-reads
-use Rattle.closure.proofs.step.Reads as step-reads
-use mathlib.Core.Path.{_≡_, refl, sym, ap, _∙_}
-use mathlib.Core.List.{List, map}
-use Prim.Native.Nat.{ℕ, zero, suc, _+_, _-_, _*_, _≤_, _<_}
-use native.Mathlib.Omega.{arith}
-use lib.ListN.{length, getD, set, take, drop, length-set}
-use mathlib.Core.Logic.{⊎-elim}
-use denote.Ref.{now}
 use Rattle.closure.proofs.Moments.{stepping-next, admit-quiet, admit-settled}
 
 add-t8 : tie.Need-add-t8

@@ -1,25 +1,16 @@
+-- `apply` meets its contract. What was found is what the table has for the key; where that is nothing, place i goes to
+-- the head of its chain.
+-- Assumes nothing.
 use borrow.Author.Needs.{needs}
-use Rattle.closure.proofs.apply.Statement.{statement}
-use Rattle.closure.proofs.apply.Tie as tie
-use Rattle.closure.proofs.apply.Reads as reads
-use Rattle.closure.proofs.apply.Lts as lts
-use Rattle.closure.proofs.insert.Reads as insert-reads
-use Rattle.closure.proofs.key.Reads as key-reads
-use Rattle.closure.proofs.seek.Reads as seek-reads
-use Rattle.closure.proofs.unify.Reads as unify-reads
-use Rattle.table.proofs.head.Reads as head-reads
-use Rattle.table.proofs.listed.Reads as listed-reads
-use mathlib.Core.Path.{_≡_, refl, sym, ap, _∙_}
-use mathlib.Core.List.{List, map}
-use Prim.Native.Nat.{ℕ, zero, suc, _+_, _-_, _*_, _≤_, _<_}
+use mathlib.Core.Path.{_≡_, ap, _∙_}
 use native.Mathlib.Omega.{arith}
-use lib.ListN.{length, getD, set, take, drop, length-set}
-use mathlib.Core.Logic.{⊎-elim}
 use denote.Ref.{now}
 use Prim.Native.Nat.{_%_}
 use Rattle.table.specs.Map.{headOf, nextOf}
 use Rattle.closure.specs.Chain.{look}
 use Rattle.closure.specs.State.{keyIn, keyOf}
+use Rattle.closure.proofs.apply.Statement.{statement}
+use Rattle.closure.proofs.apply.Tie as tie
 use Rattle.closure.proofs.Rows.{row-readable}
 use Rattle.closure.proofs.Steps.{apply-found, apply-insert}
 

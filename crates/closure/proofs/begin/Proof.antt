@@ -1,19 +1,8 @@
+-- `begin` meets its contract. Each of the four parts that are written is outside the others.
+-- Assumes nothing.
 use borrow.Author.Needs.{needs}
 use Rattle.closure.proofs.begin.Statement.{statement}
 use Rattle.closure.proofs.begin.Tie as tie
-use Rattle.closure.proofs.begin.Reads as reads
-use Rattle.closure.proofs.begin.Lts as lts
-use Rattle.closure.proofs.clear.Reads as clear-reads
-use Rattle.closure.proofs.enlist.Reads as enlist-reads
-use Rattle.closure.proofs.fresh.Reads as fresh-reads
-use Rattle.closure.proofs.unlink.Reads as unlink-reads
-use mathlib.Core.Path.{_≡_, refl, sym, ap, _∙_}
-use mathlib.Core.List.{List, map}
-use Prim.Native.Nat.{ℕ, zero, suc, _+_, _-_, _*_, _≤_, _<_}
-use native.Mathlib.Omega.{arith}
-use lib.ListN.{length, getD, set, take, drop, length-set}
-use mathlib.Core.Logic.{⊎-elim}
-use denote.Ref.{now}
 use Rattle.closure.proofs.Views.{begun}
 
 unlink-requires : tie.Need-unlink-requires

@@ -1,24 +1,17 @@
-use borrow.Author.Needs.{needs}
-use Rattle.closure.proofs.close.Statement.{statement}
-use Rattle.closure.proofs.close.Tie as tie
-use Rattle.closure.proofs.close.Reads as reads
-use Rattle.closure.proofs.close.Lts as lts
-use Rattle.closure.proofs.admit.Reads as admit-reads
-use Rattle.closure.proofs.begin.Reads as begin-reads
-use mathlib.Core.Path.{_≡_, refl, sym, ap, _∙_}
-use mathlib.Core.List.{List, map}
-use Prim.Native.Nat.{ℕ, zero, suc, _+_, _-_, _*_, _≤_, _<_}
+-- `close` meets its contract. Between records every moment so far is settled, and the idle records so far are counted.
+-- Assumes nothing.
+use mathlib.Core.Path.{_≡_, _∙_}
+use Prim.Native.Nat.{_-_, _≤_}
 use native.Mathlib.Omega.{arith}
-use lib.ListN.{length, getD, set, take, drop, length-set}
-use mathlib.Core.Logic.{⊎-elim}
-use denote.Ref.{now}
+use mathlib.Core.Logic.{⊎-elim, inl, inr}
 use native.Mathlib.Numerals.{add-one}
-use mathlib.Core.Logic.{inl, inr}
 use Rattle.meaning.specs.Totals.{Count, none, Idle}
 use Rattle.meaning.proofs.Count.{count-most}
 use Rattle.table.specs.Map.{recordsIn, Within}
 use Rattle.table.proofs.Frame.{within-refl, within-trans}
 use Rattle.closure.specs.State.{Between}
+use Rattle.closure.proofs.close.Statement.{statement}
+use Rattle.closure.proofs.close.Tie as tie
 use Rattle.closure.proofs.Moments.{between-start, idle-turn, close-done}
 
 abbrev Inv-loop : tie.InvT-loop

@@ -1,18 +1,9 @@
-use borrow.Author.Needs.{needs}
+-- `entails` meets its contract. Labels that are sound and closed under the list's records decide what follows from them.
+-- Assumes nothing.
+use mathlib.Core.Path.{_∙_}
+use native.Mathlib.Omega.{arith}
 use Rattle.closure.proofs.entails.Statement.{statement}
 use Rattle.closure.proofs.entails.Tie as tie
-use Rattle.closure.proofs.entails.Reads as reads
-use Rattle.closure.proofs.entails.Lts as lts
-use Rattle.closure.proofs.fresh.Reads as fresh-reads
-use Rattle.closure.proofs.settle.Reads as settle-reads
-use Rattle.table.proofs.label.Reads as label-reads
-use mathlib.Core.Path.{_≡_, refl, sym, ap, _∙_}
-use mathlib.Core.List.{List, map}
-use Prim.Native.Nat.{ℕ, zero, suc, _+_, _-_, _*_, _≤_, _<_}
-use native.Mathlib.Omega.{arith}
-use lib.ListN.{length, getD, set, take, drop, length-set}
-use mathlib.Core.Logic.{⊎-elim}
-use denote.Ref.{now}
 use Rattle.closure.proofs.Moments.{entails-start, entails-done}
 
 fresh-requires : tie.Need-fresh-requires

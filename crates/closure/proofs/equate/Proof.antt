@@ -1,21 +1,13 @@
+-- `equate` meets its contract. Labels that agree leave everything valid, and labels that differ make the equation's
+-- join due.
+-- Assumes nothing.
 use borrow.Author.Needs.{needs}
-use Rattle.closure.proofs.equate.Statement.{statement}
-use Rattle.closure.proofs.equate.Tie as tie
-use Rattle.closure.proofs.equate.Reads as reads
-use Rattle.closure.proofs.equate.Lts as lts
-use Rattle.closure.proofs.join.Reads as join-reads
-use Rattle.table.proofs.label.Reads as label-reads
-use Rattle.table.proofs.left.Reads as left-reads
-use Rattle.table.proofs.listed.Reads as listed-reads
-use Rattle.table.proofs.right.Reads as right-reads
-use mathlib.Core.Path.{_≡_, refl, sym, ap, _∙_}
-use mathlib.Core.List.{List, map}
-use Prim.Native.Nat.{ℕ, zero, suc, _+_, _-_, _*_, _≤_, _<_}
+use mathlib.Core.Path.{_≡_, sym, _∙_}
 use native.Mathlib.Omega.{arith}
-use lib.ListN.{length, getD, set, take, drop, length-set}
-use mathlib.Core.Logic.{⊎-elim}
 use denote.Ref.{now}
 use Rattle.table.specs.Map.{leftOf, rightOf, labelOf}
+use Rattle.closure.proofs.equate.Statement.{statement}
+use Rattle.closure.proofs.equate.Tie as tie
 use Rattle.closure.proofs.Rows.{row-most, row-left, row-right}
 use Rattle.closure.proofs.Steps.{equate-stay, equate-due, joined-stepped}
 

@@ -1,16 +1,10 @@
+-- `fresh` meets its contract. The part that is lent is the region of the labels, and comes back counting up from 0.
+-- Assumes nothing.
 use borrow.Author.Needs.{needs}
+use mathlib.Core.Path.{refl}
+use denote.Ref.{now}
 use Rattle.closure.proofs.fresh.Statement.{statement}
 use Rattle.closure.proofs.fresh.Tie as tie
-use Rattle.closure.proofs.fresh.Reads as reads
-use Rattle.closure.proofs.fresh.Lts as lts
-use Rattle.closure.proofs.count_up.Reads as count-up-reads
-use mathlib.Core.Path.{_≡_, refl, sym, ap, _∙_}
-use mathlib.Core.List.{List, map}
-use Prim.Native.Nat.{ℕ, zero, suc, _+_, _-_, _*_, _≤_, _<_}
-use native.Mathlib.Omega.{arith}
-use lib.ListN.{length, getD, set, take, drop, length-set}
-use mathlib.Core.Logic.{⊎-elim}
-use denote.Ref.{now}
 use Rattle.closure.proofs.Views.{freshened}
 
 sub-count-up : tie.Need-sub-count-up

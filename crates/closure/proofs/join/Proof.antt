@@ -1,16 +1,9 @@
+-- `join` meets its contract. Labels that differ have a smaller one, and a join's ends may change places.
+-- Assumes nothing.
 use borrow.Author.Needs.{needs}
+use native.Mathlib.Omega.{arith}
 use Rattle.closure.proofs.join.Statement.{statement}
 use Rattle.closure.proofs.join.Tie as tie
-use Rattle.closure.proofs.join.Reads as reads
-use Rattle.closure.proofs.join.Lts as lts
-use Rattle.closure.proofs.unite.Reads as unite-reads
-use mathlib.Core.Path.{_≡_, refl, sym, ap, _∙_}
-use mathlib.Core.List.{List, map}
-use Prim.Native.Nat.{ℕ, zero, suc, _+_, _-_, _*_, _≤_, _<_}
-use native.Mathlib.Omega.{arith}
-use lib.ListN.{length, getD, set, take, drop, length-set}
-use mathlib.Core.Logic.{⊎-elim}
-use denote.Ref.{now}
 use Rattle.closure.proofs.Uniting.{joining-flip}
 
 unite-requires : tie.Need-unite-requires

@@ -1,19 +1,8 @@
+-- `key` meets its contract. It reads what the definition names, and two labels fit.
+-- Assumes nothing.
 use borrow.Author.Needs.{needs}
 use Rattle.closure.proofs.key.Statement.{statement}
 use Rattle.closure.proofs.key.Tie as tie
-use Rattle.closure.proofs.key.Reads as reads
-use Rattle.closure.proofs.key.Lts as lts
-use Rattle.closure.proofs.wide.Reads as wide-reads
-use Rattle.table.proofs.label.Reads as label-reads
-use Rattle.table.proofs.left.Reads as left-reads
-use Rattle.table.proofs.right.Reads as right-reads
-use mathlib.Core.Path.{_≡_, refl, sym, ap, _∙_}
-use mathlib.Core.List.{List, map}
-use Prim.Native.Nat.{ℕ, zero, suc, _+_, _-_, _*_, _≤_, _<_}
-use native.Mathlib.Omega.{arith}
-use lib.ListN.{length, getD, set, take, drop, length-set}
-use mathlib.Core.Logic.{⊎-elim}
-use denote.Ref.{now}
 
 left-requires : tie.Need-left-requires
 left-requires c κs = search needs

@@ -1,16 +1,10 @@
+-- `merge` meets its contract. The part that is lent is the region of the labels, and comes back mapped.
+-- Assumes nothing.
 use borrow.Author.Needs.{needs}
+use mathlib.Core.Path.{refl}
+use denote.Ref.{now}
 use Rattle.closure.proofs.merge.Statement.{statement}
 use Rattle.closure.proofs.merge.Tie as tie
-use Rattle.closure.proofs.merge.Reads as reads
-use Rattle.closure.proofs.merge.Lts as lts
-use Rattle.closure.proofs.relabel.Reads as relabel-reads
-use mathlib.Core.Path.{_≡_, refl, sym, ap, _∙_}
-use mathlib.Core.List.{List, map}
-use Prim.Native.Nat.{ℕ, zero, suc, _+_, _-_, _*_, _≤_, _<_}
-use native.Mathlib.Omega.{arith}
-use lib.ListN.{length, getD, set, take, drop, length-set}
-use mathlib.Core.Logic.{⊎-elim}
-use denote.Ref.{now}
 use Rattle.closure.proofs.Views.{relabelled}
 
 sub-relabel : tie.Need-sub-relabel

@@ -1,17 +1,8 @@
+-- `note` meets its contract. Its five stores are those of the two calls, in their order.
+-- Assumes nothing.
 use borrow.Author.Needs.{needs}
 use Rattle.closure.proofs.note.Statement.{statement}
 use Rattle.closure.proofs.note.Tie as tie
-use Rattle.closure.proofs.note.Reads as reads
-use Rattle.closure.proofs.note.Lts as lts
-use Rattle.table.proofs.put_join.Reads as put-join-reads
-use Rattle.table.proofs.put_link.Reads as put-link-reads
-use mathlib.Core.Path.{_≡_, refl, sym, ap, _∙_}
-use mathlib.Core.List.{List, map}
-use Prim.Native.Nat.{ℕ, zero, suc, _+_, _-_, _*_, _≤_, _<_}
-use native.Mathlib.Omega.{arith}
-use lib.ListN.{length, getD, set, take, drop, length-set}
-use mathlib.Core.Logic.{⊎-elim}
-use denote.Ref.{now}
 
 put-link-requires : tie.Need-put-link-requires
 put-link-requires c κs = search needs

@@ -1,18 +1,11 @@
-use borrow.Author.Needs.{needs}
+-- `pass` meets its contract. When i places are passed, the chains hold those, and if no join came they are valid.
+-- Assumes nothing.
+use mathlib.Core.Path.{_≡_, _∙_}
+use Prim.Native.Nat.{_-_, _≤_}
+use native.Mathlib.Omega.{arith}
+use Rattle.closure.specs.State.{Passed}
 use Rattle.closure.proofs.pass.Statement.{statement}
 use Rattle.closure.proofs.pass.Tie as tie
-use Rattle.closure.proofs.pass.Reads as reads
-use Rattle.closure.proofs.pass.Lts as lts
-use Rattle.closure.proofs.clear.Reads as clear-reads
-use Rattle.closure.proofs.step.Reads as step-reads
-use mathlib.Core.Path.{_≡_, refl, sym, ap, _∙_}
-use mathlib.Core.List.{List, map}
-use Prim.Native.Nat.{ℕ, zero, suc, _+_, _-_, _*_, _≤_, _<_}
-use native.Mathlib.Omega.{arith}
-use lib.ListN.{length, getD, set, take, drop, length-set}
-use mathlib.Core.Logic.{⊎-elim}
-use denote.Ref.{now}
-use Rattle.closure.specs.State.{Passed}
 use Rattle.closure.proofs.Steps.{passed-none, passed-step, passed-from}
 
 abbrev Inv-loop : tie.InvT-loop

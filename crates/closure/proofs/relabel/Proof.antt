@@ -1,17 +1,17 @@
+-- `relabel` meets its contract. When i numbers are passed, they are mapped and the rest is as it was;
+-- a choice of values is `into`.
+-- Assumes nothing.
 use borrow.Author.Needs.{needs}
-use Rattle.closure.proofs.relabel.Statement.{statement}
-use Rattle.closure.proofs.relabel.Tie as tie
-use Rattle.closure.proofs.relabel.Reads as reads
-use Rattle.closure.proofs.relabel.Lts as lts
-use mathlib.Core.Path.{_≡_, refl, sym, ap, _∙_}
-use mathlib.Core.List.{List, map}
-use Prim.Native.Nat.{ℕ, zero, suc, _+_, _-_, _*_, _≤_, _<_}
+use mathlib.Core.Path.{_≡_, sym, _∙_}
+use Prim.Native.Nat.{_-_, _≤_}
 use native.Mathlib.Omega.{arith}
-use lib.ListN.{length, getD, set, take, drop, length-set}
+use lib.ListN.{length, getD, length-set}
 use mathlib.Core.Logic.{⊎-elim}
 use denote.Ref.{now}
 use Rattle.meaning.specs.Labels.{into}
 use Rattle.meaning.proofs.Relabel.{into-hit, into-miss}
+use Rattle.closure.proofs.relabel.Statement.{statement}
+use Rattle.closure.proofs.relabel.Tie as tie
 use Rattle.closure.proofs.Loops.{mapTo, map-turn, map-all}
 
 abbrev Inv-loop : tie.InvT-loop

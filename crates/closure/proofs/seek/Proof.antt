@@ -1,23 +1,16 @@
-use borrow.Author.Needs.{needs}
-use Rattle.closure.proofs.seek.Statement.{statement}
-use Rattle.closure.proofs.seek.Tie as tie
-use Rattle.closure.proofs.seek.Reads as reads
-use Rattle.closure.proofs.seek.Lts as lts
-use Rattle.closure.proofs.key.Reads as key-reads
-use Rattle.table.proofs.listed.Reads as listed-reads
-use Rattle.table.proofs.next.Reads as next-reads
-use mathlib.Core.Path.{_≡_, refl, sym, ap, _∙_}
-use mathlib.Core.List.{List, map}
-use Prim.Native.Nat.{ℕ, zero, suc, _+_, _-_, _*_, _≤_, _<_}
+-- `seek` meets its contract. What the rest of the chain has for the key is what the whole has; links fall, so p is
+-- the measure.
+-- Assumes nothing.
+use mathlib.Core.Path.{_≡_, refl, sym, _∙_}
+use Prim.Native.Nat.{_-_, _≤_}
 use native.Mathlib.Omega.{arith}
-use lib.ListN.{length, getD, set, take, drop, length-set}
-use mathlib.Core.Logic.{⊎-elim}
 use denote.Ref.{now}
-use mathlib.Core.Bool.{Bool}
 use borrow.Author.Tests.{eq-eqb, ne-eqb}
 use Rattle.table.specs.Map.{nextOf}
 use Rattle.closure.specs.Chain.{seekTo, hits}
 use Rattle.closure.specs.State.{keyOf}
+use Rattle.closure.proofs.seek.Statement.{statement}
+use Rattle.closure.proofs.seek.Tie as tie
 use Rattle.closure.proofs.Chain.{seek-found, seek-next, seek-none}
 use Rattle.closure.proofs.Rows.{row-readable}
 

@@ -1,17 +1,12 @@
-use borrow.Author.Needs.{needs}
+-- `settle` meets its contract. A pass that made no join leaves the table valid. The measure is the number of joins
+-- that can still be made: N less those made.
+-- Assumes nothing.
+use mathlib.Core.Path.{_∙_}
+use Prim.Native.Nat.{_-_, _≤_}
+use native.Mathlib.Omega.{arith}
+use Rattle.closure.specs.State.{State, Kept}
 use Rattle.closure.proofs.settle.Statement.{statement}
 use Rattle.closure.proofs.settle.Tie as tie
-use Rattle.closure.proofs.settle.Reads as reads
-use Rattle.closure.proofs.settle.Lts as lts
-use Rattle.closure.proofs.pass.Reads as pass-reads
-use mathlib.Core.Path.{_≡_, refl, sym, ap, _∙_}
-use mathlib.Core.List.{List, map}
-use Prim.Native.Nat.{ℕ, zero, suc, _+_, _-_, _*_, _≤_, _<_}
-use native.Mathlib.Omega.{arith}
-use lib.ListN.{length, getD, set, take, drop, length-set}
-use mathlib.Core.Logic.{⊎-elim}
-use denote.Ref.{now}
-use Rattle.closure.specs.State.{State, Kept, Passed, Rested}
 use Rattle.closure.proofs.Steps.{kept-refl, kept-trans}
 
 abbrev Inv-loop : tie.InvT-loop

@@ -1,19 +1,10 @@
+-- `step` meets its contract. A record is an equation or an application.
+-- Assumes nothing.
 use borrow.Author.Needs.{needs}
+use native.Mathlib.Omega.{arith}
+use denote.Ref.{now}
 use Rattle.closure.proofs.step.Statement.{statement}
 use Rattle.closure.proofs.step.Tie as tie
-use Rattle.closure.proofs.step.Reads as reads
-use Rattle.closure.proofs.step.Lts as lts
-use Rattle.closure.proofs.apply.Reads as apply-reads
-use Rattle.closure.proofs.equate.Reads as equate-reads
-use Rattle.table.proofs.is_equation.Reads as is-equation-reads
-use Rattle.table.proofs.listed.Reads as listed-reads
-use mathlib.Core.Path.{_≡_, refl, sym, ap, _∙_}
-use mathlib.Core.List.{List, map}
-use Prim.Native.Nat.{ℕ, zero, suc, _+_, _-_, _*_, _≤_, _<_}
-use native.Mathlib.Omega.{arith}
-use lib.ListN.{length, getD, set, take, drop, length-set}
-use mathlib.Core.Logic.{⊎-elim}
-use denote.Ref.{now}
 use Rattle.closure.proofs.Rows.{row-most}
 use Rattle.closure.proofs.Steps.{eqn-is}
 

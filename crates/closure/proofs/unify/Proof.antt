@@ -1,20 +1,13 @@
+-- `unify` meets its contract. What the table has for a key is an application with that key, so the two have equal
+-- argument labels, and results whose labels differ make their join due.
+-- Assumes nothing.
 use borrow.Author.Needs.{needs}
-use Rattle.closure.proofs.unify.Statement.{statement}
-use Rattle.closure.proofs.unify.Tie as tie
-use Rattle.closure.proofs.unify.Reads as reads
-use Rattle.closure.proofs.unify.Lts as lts
-use Rattle.closure.proofs.join.Reads as join-reads
-use Rattle.table.proofs.label.Reads as label-reads
-use Rattle.table.proofs.listed.Reads as listed-reads
-use Rattle.table.proofs.result.Reads as result-reads
-use mathlib.Core.Path.{_≡_, refl, sym, ap, _∙_}
-use mathlib.Core.List.{List, map}
-use Prim.Native.Nat.{ℕ, zero, suc, _+_, _-_, _*_, _≤_, _<_}
+use mathlib.Core.Path.{_≡_, sym, _∙_}
 use native.Mathlib.Omega.{arith}
-use lib.ListN.{length, getD, set, take, drop, length-set}
-use mathlib.Core.Logic.{⊎-elim}
 use denote.Ref.{now}
 use Rattle.table.specs.Map.{resultOf, labelOf}
+use Rattle.closure.proofs.unify.Statement.{statement}
+use Rattle.closure.proofs.unify.Tie as tie
 use Rattle.closure.proofs.Rows.{row-most, row-result}
 use Rattle.closure.proofs.Steps.{unify-low, unify-app, unify-stay, unify-due, joined-stepped}
 

@@ -1,17 +1,10 @@
+-- `unite` meets its contract. The bounds that the stores need come from the join's being due; the rest is
+-- the law of a join, with a log or without.
+-- Assumes nothing.
 use borrow.Author.Needs.{needs}
+use native.Mathlib.Omega.{arith}
 use Rattle.closure.proofs.unite.Statement.{statement}
 use Rattle.closure.proofs.unite.Tie as tie
-use Rattle.closure.proofs.unite.Reads as reads
-use Rattle.closure.proofs.unite.Lts as lts
-use Rattle.closure.proofs.merge.Reads as merge-reads
-use Rattle.closure.proofs.note.Reads as note-reads
-use mathlib.Core.Path.{_≡_, refl, sym, ap, _∙_}
-use mathlib.Core.List.{List, map}
-use Prim.Native.Nat.{ℕ, zero, suc, _+_, _-_, _*_, _≤_, _<_}
-use native.Mathlib.Omega.{arith}
-use lib.ListN.{length, getD, set, take, drop, length-set}
-use mathlib.Core.Logic.{⊎-elim}
-use denote.Ref.{now}
 use Rattle.closure.proofs.Uniting.{unite-high, unite-young, unite-bare, unite-kept}
 
 merge-requires : tie.Need-merge-requires

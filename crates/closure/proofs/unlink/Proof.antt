@@ -1,16 +1,10 @@
+-- `unlink` meets its contract. The part that is lent is the region of the ages, and comes back filled.
+-- Assumes nothing.
 use borrow.Author.Needs.{needs}
+use mathlib.Core.Path.{refl}
+use denote.Ref.{now}
 use Rattle.closure.proofs.unlink.Statement.{statement}
 use Rattle.closure.proofs.unlink.Tie as tie
-use Rattle.closure.proofs.unlink.Reads as reads
-use Rattle.closure.proofs.unlink.Lts as lts
-use Rattle.closure.proofs.fill.Reads as fill-reads
-use mathlib.Core.Path.{_≡_, refl, sym, ap, _∙_}
-use mathlib.Core.List.{List, map}
-use Prim.Native.Nat.{ℕ, zero, suc, _+_, _-_, _*_, _≤_, _<_}
-use native.Mathlib.Omega.{arith}
-use lib.ListN.{length, getD, set, take, drop, length-set}
-use mathlib.Core.Logic.{⊎-elim}
-use denote.Ref.{now}
 use Rattle.closure.proofs.Views.{unlinked}
 
 sub-fill : tie.Need-sub-fill

@@ -3,9 +3,8 @@
 use borrow.Author.Needs.{needs}
 use Rattle.job.proofs.allowed.Statement.{statement}
 use Rattle.job.proofs.allowed.Tie as tie
-use Rattle.job.specs.Reading.{checked}
-use mathlib.Core.Path.{sym, _∙_}
-use Prim.Native.Nat.{_-_}
+use Rattle.job.specs.Reading.{orElse, checked}
+use mathlib.Core.Path.{ap, _∙_}
 
 is-counted-requires : tie.Need-is-counted-requires
 is-counted-requires c κs = search needs
@@ -13,20 +12,19 @@ is-counted-requires c κs = search needs
 is-numbered-requires : tie.Need-is-numbered-requires
 is-numbered-requires c κs = search needs
 
+or-else-requires : tie.Need-or-else-requires
+or-else-requires c κs = search needs
+
+or-else-requires-2 : tie.Need-or-else-requires-2
+or-else-requires-2 c κs = search needs
+
 returns : tie.Need-returns
 unfolding checked
 returns c =
-    rw (sym (c .before .before .before .is-counted .ensures) ∙ c .before .before .if1 .taken, sym (c .before .is-numbered .ensures) ∙ c .if2 .taken)
-
-returns-2 : tie.Need-returns-2
-unfolding checked
-returns-2 c =
-    rw (sym (c .before .before .before .is-counted .ensures) ∙ c .before .before .if1 .taken, sym (c .before .is-numbered .ensures) ∙ c .if2 .left)
-
-returns-3 : tie.Need-returns-3
-unfolding checked
-returns-3 c = rw (sym (c .before .is-counted .ensures) ∙ c .if1 .left)
+    rw (← c .before .before .before .is-counted .ensures, ← c .before .before .is-numbered .ensures)
+    (c .or-else2 .ensures ∙ ap (orElse (c .before .before .before .is-counted .result) 7) (c .before .or-else .ensures))
 
 pub allowed-spec : {M : Type 1} → statement M
 allowed-spec =
-    tie.close (tie.spec is-counted-requires is-numbered-requires returns returns-2 returns-3)
+    tie.close
+    (tie.spec is-counted-requires is-numbered-requires or-else-requires or-else-requires-2 returns)

@@ -6,11 +6,6 @@ use Rattle.reasons.proofs.Kept.{past-forest}
 use Rattle.reasons.proofs.Whole.{answer-same, answer-never, answer-later, answer-because, asks-reason}
 use Rattle.reasons.proofs.explain.Statement.{statement}
 use Rattle.reasons.proofs.explain.Tie as tie
-use Rattle.reasons.proofs.explain.Reads as reads
-use Rattle.reasons.proofs.explain.Lts as lts
-use Rattle.reasons.proofs.meeting.made.Reads as made-reads
-use Rattle.reasons.proofs.meeting.met.Reads as met-reads
-use Rattle.reasons.proofs.reason.Reads as reason-reads
 
 returns : tie.Need-returns
 returns c = answer-same (c .before .before .before .before .pre) (c .if1 .taken)

@@ -6,13 +6,6 @@ use native.Mathlib.Numerals.{add-one}
 use Rattle.reasons.proofs.Whole.{asks-trace, asks-list, asks-trim, asks-rising, reasoned}
 use Rattle.reasons.proofs.reason.Statement.{statement}
 use Rattle.reasons.proofs.reason.Tie as tie
-use Rattle.reasons.proofs.reason.Reads as reads
-use Rattle.reasons.proofs.reason.Lts as lts
-use Rattle.reasons.proofs.listing.list_marked.Reads as list-marked-reads
-use Rattle.reasons.proofs.rising.put_rising.Reads as put-rising-reads
-use Rattle.reasons.proofs.tracing.trace.Reads as trace-reads
-use Rattle.reasons.proofs.tracing.unmark_all.Reads as unmark-all-reads
-use Rattle.reasons.proofs.trimming.trim.Reads as trim-reads
 
 unmark-all-requires : tie.Need-unmark-all-requires
 unmark-all-requires c κs = (c .before .before .pre .past .loaded .long, omega (arith, c .before .before .pre .past .low, c .before .before .pre .past .loaded .few))

@@ -4,7 +4,6 @@ use borrow.Author.Needs.{needs}
 use Rattle.report.proofs.put_listed.Statement.{statement}
 use Rattle.report.proofs.put_listed.Tie as tie
 use mathlib.Core.Path.{ap, _∙_}
-use mathlib.Core.List.{List}
 use Prim.Native.Nat.{ℕ, _+_, _*_}
 use denote.Ref.{now}
 use Rattle.report.specs.Report.{two, laid}

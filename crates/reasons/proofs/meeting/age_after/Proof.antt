@@ -3,7 +3,7 @@
 use borrow.Author.Needs.{needs}
 use mathlib.Core.Path.{_≡_, _∙_}
 use mathlib.Core.Logic.{⊎-elim}
-use Prim.Native.Nat.{ℕ, _+_, _-_, _≤_, _<_}
+use Prim.Native.Nat.{_-_, _≤_}
 use native.Mathlib.Omega.{arith}
 use lib.Dec.{leb}
 use Rattle.meaning.specs.Joins.{count}
@@ -11,9 +11,6 @@ use Rattle.table.specs.Map.{whenOf}
 use Rattle.reasons.proofs.Moments.{count-in, count-out}
 use Rattle.reasons.proofs.meeting.age_after.Statement.{statement}
 use Rattle.reasons.proofs.meeting.age_after.Tie as tie
-use Rattle.reasons.proofs.meeting.age_after.Reads as reads
-use Rattle.reasons.proofs.meeting.age_after.Lts as lts
-use Rattle.reasons.proofs.meeting.made.Reads as made-reads
 
 abbrev Inv-loop : tie.InvT-loop
 Inv-loop work joins before n₀ a₀ n a = (a ≤ joins) × (n ≤ a) × (n ≡ count (λ i. leb (whenOf work i) before) a)

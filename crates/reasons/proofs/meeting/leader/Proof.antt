@@ -10,10 +10,6 @@ use Rattle.meaning.proofs.Forest.{root-stop, root-up}
 use Rattle.reasons.specs.Meeting.{leaderAt, Forested}
 use Rattle.reasons.proofs.meeting.leader.Statement.{statement}
 use Rattle.reasons.proofs.meeting.leader.Tie as tie
-use Rattle.reasons.proofs.meeting.leader.Reads as reads
-use Rattle.reasons.proofs.meeting.leader.Lts as lts
-use Rattle.table.proofs.age.Reads as age-reads
-use Rattle.table.proofs.parent.Reads as parent-reads
 
 -- The links of the table, as the climb uses them.
 step : (w : List ℕ) (a x : ℕ) → Forested w → a ≤ 1000 → x < 1000 → ageOf w x < a → (parentOf w x < x) × (leaderAt w a (parentOf w x) ≡ leaderAt w a x)

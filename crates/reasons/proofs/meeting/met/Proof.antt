@@ -11,10 +11,6 @@ use Rattle.reasons.specs.Meeting.{Forested, Met}
 use Rattle.reasons.proofs.Climb.{Climbing, climb-start, climb-near, climb-far, climb-never, climb-end}
 use Rattle.reasons.proofs.meeting.met.Statement.{statement}
 use Rattle.reasons.proofs.meeting.met.Tie as tie
-use Rattle.reasons.proofs.meeting.met.Reads as reads
-use Rattle.reasons.proofs.meeting.met.Lts as lts
-use Rattle.table.proofs.age.Reads as age-reads
-use Rattle.table.proofs.parent.Reads as parent-reads
 
 -- Where two climbers of the table stand.
 record Standing (w : List ℕ) (s t x y newest : ℕ) : Type 0 where

@@ -9,9 +9,6 @@ use Rattle.reasons.specs.Tracing.{Unmarked}
 use Rattle.reasons.proofs.Crossing.{unmarked-start, unmarked-more}
 use Rattle.reasons.proofs.tracing.unmark_all.Statement.{statement}
 use Rattle.reasons.proofs.tracing.unmark_all.Tie as tie
-use Rattle.reasons.proofs.tracing.unmark_all.Reads as reads
-use Rattle.reasons.proofs.tracing.unmark_all.Lts as lts
-use Rattle.reasons.proofs.tracing.unmark.Reads as unmark-reads
 
 abbrev Inv-loop : tie.InvT-loop
 Inv-loop work₀ n a₀ work a = (a ≤ n) × Unmarked work₀ work a

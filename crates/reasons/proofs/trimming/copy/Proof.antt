@@ -9,10 +9,6 @@ use Rattle.reasons.specs.Trimming.{Copied}
 use Rattle.reasons.proofs.Sparing.{copied-start, copied-more}
 use Rattle.reasons.proofs.trimming.copy.Statement.{statement}
 use Rattle.reasons.proofs.trimming.copy.Tie as tie
-use Rattle.reasons.proofs.trimming.copy.Reads as reads
-use Rattle.reasons.proofs.trimming.copy.Lts as lts
-use Rattle.table.proofs.listed.Reads as listed-reads
-use Rattle.table.proofs.put_listed.Reads as put-listed-reads
 
 abbrev Inv-loop : tie.InvT-loop
 Inv-loop work₀ from to count j₀ work j = (j ≤ count) × Copied work₀ work from to j

@@ -1,16 +1,13 @@
 -- `reasons::trimming::trim` meets its contract: each turn tries one more.
 -- Assumes nothing.
 use borrow.Author.Needs.{needs}
-use Prim.Native.Nat.{_≤_, _-_}
+use Prim.Native.Nat.{_-_}
 use native.Mathlib.Omega.{arith}
 use native.Mathlib.Numerals.{add-one}
 use mathlib.Core.Path.{_≡_}
 use Rattle.reasons.proofs.Sparing.{Pruning, pruning-start, pruning-more, pruning-end}
 use Rattle.reasons.proofs.trimming.trim.Statement.{statement}
 use Rattle.reasons.proofs.trimming.trim.Tie as tie
-use Rattle.reasons.proofs.trimming.trim.Reads as reads
-use Rattle.reasons.proofs.trimming.trim.Lts as lts
-use Rattle.reasons.proofs.trimming.try_one.Reads as try-one-reads
 
 abbrev Inv-loop : tie.InvT-loop
 Inv-loop work₀ size len n s t kept₀ i₀ work kept i = Pruning size len (s .0) (t .0) work₀ work n kept i

@@ -7,12 +7,6 @@ use native.Mathlib.Numerals.{add-one}
 use Rattle.reasons.proofs.Sparing.{tried-listed, tried-drop, tried-keep}
 use Rattle.reasons.proofs.trimming.try_one.Statement.{statement}
 use Rattle.reasons.proofs.trimming.try_one.Tie as tie
-use Rattle.reasons.proofs.trimming.try_one.Reads as reads
-use Rattle.reasons.proofs.trimming.try_one.Lts as lts
-use Rattle.reasons.proofs.trimming.copy.Reads as copy-reads
-use Rattle.closure.proofs.entails.Reads as entails-reads
-use Rattle.table.proofs.listed.Reads as listed-reads
-use Rattle.table.proofs.put_listed.Reads as put-listed-reads
 
 add-rest : tie.Need-add-rest
 add-rest c = search needs

@@ -1,0 +1,495 @@
+/* The answers of answers.h: the history of a job, the five points of a reason, reports and texts. Rests on answers.h. */
+#include "answers.h"
+#include "random.h"
+
+#include <stdarg.h>
+#include <stdio.h>
+#include <stdlib.h>
+#include <string.h>
+
+/* One closure for the history, one for reasons: neither disturbs the other. */
+static struct closure *in_order(void)
+{
+    static struct closure *only;
+    if (only == NULL)
+        only = closure_new();
+    return only;
+}
+
+static struct closure *of_list(void)
+{
+    static struct closure *only;
+    if (only == NULL)
+        only = closure_new();
+    return only;
+}
+
+/* ---- bytes ---- */
+
+static void more(struct bytes *bytes, size_t wanted)
+{
+    if (bytes->length + wanted <= bytes->space)
+        return;
+    bytes->space = (bytes->length + wanted) * 2;
+    bytes->at = realloc(bytes->at, bytes->space);
+    if (bytes->at == NULL) {
+        fprintf(stderr, "second: out of memory\n");
+        exit(2);
+    }
+}
+
+void byte_add(struct bytes *bytes, int byte)
+{
+    more(bytes, 1);
+    bytes->at[bytes->length++] = (unsigned char)byte;
+}
+
+void number_add(struct bytes *bytes, int number)
+{
+    byte_add(bytes, number / 256);
+    byte_add(bytes, number % 256);
+}
+
+void bytes_add(struct bytes *bytes, const unsigned char *from, size_t length)
+{
+    if (length == 0)
+        return;
+    more(bytes, length);
+    memcpy(bytes->at + bytes->length, from, length);
+    bytes->length += length;
+}
+
+void text_add(struct bytes *bytes, const char *format, ...)
+{
+    char line[128];
+    va_list rest;
+    va_start(rest, format);
+    int length = vsnprintf(line, sizeof line, format, rest);
+    va_end(rest);
+    bytes_add(bytes, (const unsigned char *)line, (size_t)length);
+}
+
+/* ---- the history ---- */
+
+enum way way_for(const struct job *job)
+{
+    return job->tags <= SMALL_TAGS && job->records <= SMALL_RECORDS ? LITERALLY : BY_USE_LISTS;
+}
+
+static int literal_leader(const struct relation *relation, int s)
+{
+    int leader = 0;
+    while (!literal_same(relation, s, leader))
+        leader++;
+    return leader;
+}
+
+static int literal_classes(const struct relation *relation, int tags)
+{
+    int classes = 0;
+    for (int x = 0; x < tags; x++)
+        classes += literal_leader(relation, x) == x;
+    return classes;
+}
+
+static void history_literally(struct history *history, const struct job *job)
+{
+    static struct relation after[LITERAL_RECORDS + 1]; /* after[k]: by the records 1 to k */
+    int numbers[LITERAL_RECORDS + 1];
+    for (int k = 0; k <= job->records; k++) {
+        if (k > 0)
+            numbers[k - 1] = k;
+        literal_close(&after[k], job->tags, job->record, numbers, k);
+    }
+    for (int k = 1; k <= job->records; k++)
+        history->idle += literal_classes(&after[k], job->tags) == literal_classes(&after[k - 1], job->tags);
+    history->classes = literal_classes(&after[job->records], job->tags);
+    for (int i = 0; i < job->questions; i++) {
+        const struct question *q = &job->question[i];
+        struct moment *m = &history->moment[i];
+        m->follows = literal_same(&after[q->before], q->s, q->t);
+        m->leader_s = literal_leader(&after[q->before], q->s);
+        m->leader_t = literal_leader(&after[q->before], q->t);
+        m->first = 0;
+        if (m->follows)
+            while (!literal_same(&after[m->first], q->s, q->t))
+                m->first++;
+    }
+}
+
+static void history_by_use_lists(struct history *history, const struct job *job)
+{
+    static unsigned short first[MOST_TAGS * MOST_TAGS];
+    struct closure *closure = in_order();
+    int k = 0;
+    closure_start(closure, job->tags);
+    closure_watch(closure, first, &k);
+    for (int i = 0; i <= job->questions; i++) {
+        int before = i < job->questions ? job->question[i].before : job->records;
+        while (k < before) {
+            int classes = closure_classes(closure);
+            k++;
+            closure_add(closure, &job->record[k]);
+            history->idle += closure_classes(closure) == classes;
+        }
+        if (i == job->questions)
+            break;
+        const struct question *q = &job->question[i];
+        struct moment *m = &history->moment[i];
+        m->follows = closure_same(closure, q->s, q->t);
+        m->leader_s = closure_leader(closure, q->s);
+        m->leader_t = closure_leader(closure, q->t);
+        m->first = m->follows && q->s != q->t ? first[q->s * job->tags + q->t] : 0;
+    }
+    history->classes = closure_classes(closure);
+}
+
+void history_of(struct history *history, const struct job *job, enum way way)
+{
+    if (way == LITERALLY && (job->tags > LITERAL_TAGS || job->records > LITERAL_RECORDS)) {
+        fprintf(stderr, "second: this job is too large to be closed literally\n");
+        exit(2);
+    }
+    history->way = way;
+    history->classes = 0;
+    history->idle = 0;
+    if (way == LITERALLY)
+        history_literally(history, job);
+    else
+        history_by_use_lists(history, job);
+}
+
+/* ---- reasons ---- */
+
+static int entails_literally(const struct job *job, int s, int t, const int *numbers, int count, int without)
+{
+    struct relation relation;
+    int kept[LITERAL_RECORDS];
+    int n = 0;
+    for (int i = 0; i < count; i++)
+        if (i != without)
+            kept[n++] = numbers[i];
+    literal_close(&relation, job->tags, job->record, kept, n);
+    return literal_same(&relation, s, t);
+}
+
+static void add_all(struct closure *closure, const struct job *job, const int *numbers, int from, int to)
+{
+    for (int i = from; i < to; i++)
+        closure_add(closure, &job->record[numbers[i]]);
+}
+
+static int entails_by_use_lists(const struct job *job, int s, int t, const int *numbers, int count)
+{
+    closure_start(of_list(), job->tags);
+    add_all(of_list(), job, numbers, 0, count);
+    return closure_same(of_list(), s, t);
+}
+
+/* Whether none of numbers[from..to] can be spared, when all the others are in the closure: each half is tried with the other
+   half put in. If the two are joined already, the whole part can be spared. */
+static int none_spare(const struct job *job, int s, int t, const int *numbers, int from, int to)
+{
+    if (closure_same(of_list(), s, t))
+        return 0;
+    if (to - from == 1)
+        return 1;
+    int middle = from + (to - from) / 2;
+    size_t mark = closure_mark(of_list());
+    add_all(of_list(), job, numbers, middle, to);
+    int left = none_spare(job, s, t, numbers, from, middle);
+    closure_back(of_list(), mark);
+    if (!left)
+        return 0;
+    add_all(of_list(), job, numbers, from, middle);
+    int right = none_spare(job, s, t, numbers, middle, to);
+    closure_back(of_list(), mark);
+    return right;
+}
+
+static int some_spare(const struct job *job, enum way way, int s, int t, const int *numbers, int count)
+{
+    if (count == 0)
+        return 0;
+    if (way == BY_USE_LISTS) {
+        closure_start(of_list(), job->tags);
+        return !none_spare(job, s, t, numbers, 0, count);
+    }
+    for (int i = 0; i < count; i++)
+        if (entails_literally(job, s, t, numbers, count, i))
+            return 1;
+    return 0;
+}
+
+int reason_fault(const struct job *job, const struct history *history, int question, const int *numbers, int count)
+{
+    const struct question *q = &job->question[question];
+    const struct moment *m = &history->moment[question];
+    for (int i = 0; i < count; i++)
+        if (numbers[i] < 1 || numbers[i] > q->before || (i > 0 && numbers[i] <= numbers[i - 1]))
+            return POINT_RISING;
+    if (!(history->way == LITERALLY ? entails_literally(job, q->s, q->t, numbers, count, -1)
+                                    : entails_by_use_lists(job, q->s, q->t, numbers, count)))
+        return POINT_ENTAILS;
+    if (q->s == q->t ? count != 0 : count == 0 || numbers[count - 1] != m->first)
+        return POINT_LAST;
+    if (some_spare(job, history->way, q->s, q->t, numbers, count))
+        return POINT_SPARE;
+    if (count > 2 * (job->tags - 1))
+        return POINT_BOUND;
+    return 0;
+}
+
+/* The records 1 to k in the order in which they are to be tried for leaving out. */
+static void try_order(int *tried, int k, uint64_t order)
+{
+    for (int i = 0; i < k; i++)
+        tried[i] = k - i;
+    for (int i = k - 1; order != 0 && i > 0; i--) {
+        int j = random_below(&order, i + 1);
+        int kept = tried[i];
+        tried[i] = tried[j];
+        tried[j] = kept;
+    }
+}
+
+static int find_literally(const struct job *job, int s, int t, int *numbers, int count)
+{
+    for (int i = 0; i < count;)
+        if (entails_literally(job, s, t, numbers, count, i)) {
+            memmove(numbers + i, numbers + i + 1, (size_t)(count - i - 1) * sizeof *numbers);
+            count--;
+        } else
+            i++;
+    return count;
+}
+
+/* Moves to the front of numbers[0..count] some that, with what is in the closure, join s and t and of which none can be spared.
+   All of them together do. The second half is searched with the first put in, then the first with what was found. */
+static int find_by_halves(const struct job *job, int s, int t, int *numbers, int count)
+{
+    if (closure_same(of_list(), s, t))
+        return 0;
+    if (count == 1)
+        return 1;
+    int half = count / 2;
+    size_t mark = closure_mark(of_list());
+    add_all(of_list(), job, numbers, 0, half);
+    int right = find_by_halves(job, s, t, numbers + half, count - half);
+    closure_back(of_list(), mark);
+    add_all(of_list(), job, numbers, half, half + right);
+    int left = find_by_halves(job, s, t, numbers, half);
+    closure_back(of_list(), mark);
+    memmove(numbers + left, numbers + half, (size_t)right * sizeof *numbers);
+    return left + right;
+}
+
+static int by_number(const void *one, const void *other)
+{
+    return *(const int *)one - *(const int *)other;
+}
+
+int reason_find(const struct job *job, const struct history *history, int question, uint64_t order, int *numbers)
+{
+    const struct question *q = &job->question[question];
+    int count = history->moment[question].first;
+    if (q->s == q->t)
+        return 0;
+    try_order(numbers, count, order);
+    if (history->way == LITERALLY)
+        count = find_literally(job, q->s, q->t, numbers, count);
+    else {
+        closure_start(of_list(), job->tags);
+        count = find_by_halves(job, q->s, q->t, numbers, count);
+    }
+    qsort(numbers, (size_t)count, sizeof *numbers, by_number);
+    return count;
+}
+
+/* ---- reports ---- */
+
+static void field_add(struct bytes *out, int kind, const int *numbers, int count)
+{
+    byte_add(out, kind);
+    number_add(out, 2 * count);
+    for (int i = 0; i < count; i++)
+        number_add(out, numbers[i]);
+}
+
+void report_write(const struct job *job, const struct history *history, uint64_t order, struct bytes *out)
+{
+    int numbers[MOST_RECORDS];
+    for (int i = 0; i < job->questions; i++) {
+        const struct moment *m = &history->moment[i];
+        if (!job->question[i].explain)
+            field_add(out, KIND_LEADERS, (int[]){m->leader_s, m->leader_t}, 2);
+        else if (m->follows)
+            field_add(out, KIND_REASON, numbers, reason_find(job, history, i, order, numbers));
+        else
+            field_add(out, KIND_NOT, NULL, 0);
+    }
+    field_add(out, KIND_TOTALS, (int[]){history->classes, history->idle}, 2);
+}
+
+/* The length of the field at the front of the report if it is right, otherwise 0. Question number `questions` is the totals. */
+static size_t right_field(const struct job *job, const struct history *history, int question, const unsigned char *field,
+                          size_t length)
+{
+    int numbers[32768];
+    if (length < 3)
+        return 0;
+    int kind = field[0], body = two_bytes(field + 1), count = body / 2;
+    if (body % 2 != 0 || length - 3 < (size_t)body)
+        return 0;
+    for (int i = 0; i < count; i++)
+        numbers[i] = two_bytes(field + 3 + 2 * i);
+    size_t whole = 3 + (size_t)body;
+    if (question == job->questions) {
+        int right = kind == KIND_TOTALS && count == 2 && numbers[0] == history->classes && numbers[1] == history->idle;
+        return right ? whole : 0;
+    }
+    const struct moment *m = &history->moment[question];
+    if (!job->question[question].explain) {
+        int right = kind == KIND_LEADERS && count == 2 && numbers[0] == m->leader_s && numbers[1] == m->leader_t;
+        return right ? whole : 0;
+    }
+    if (!m->follows)
+        return kind == KIND_NOT && count == 0 ? whole : 0;
+    return kind == KIND_REASON && reason_fault(job, history, question, numbers, count) == 0 ? whole : 0;
+}
+
+int report_judge(const struct job *job, const struct history *history, const unsigned char *report, size_t length, long *place)
+{
+    size_t at = 0;
+    for (int i = 0; i <= job->questions; i++) {
+        size_t field = right_field(job, history, i, report + at, length - at);
+        if (field == 0) {
+            *place = (long)at;
+            return 10;
+        }
+        at += field;
+    }
+    *place = at < length ? (long)at : 0;
+    return at < length ? 10 : 0;
+}
+
+/* ---- lines ---- */
+
+static void line_write(const struct job *job, const struct history *history, int i, struct bytes *out)
+{
+    int numbers[MOST_RECORDS];
+    const struct question *q = &job->question[i];
+    const struct moment *m = &history->moment[i];
+    if (!q->explain) {
+        if (m->follows)
+            text_add(out, "S %d %d %d\n", q->s, q->t, m->leader_s);
+        else
+            text_add(out, "D %d %d %d %d\n", q->s, q->t, m->leader_s, m->leader_t);
+        return;
+    }
+    if (!m->follows) {
+        text_add(out, "N %d %d\n", q->s, q->t);
+        return;
+    }
+    int count = reason_find(job, history, i, 0, numbers);
+    text_add(out, "E %d %d %d", q->s, q->t, count);
+    for (int j = 0; j < count; j++)
+        text_add(out, " %d", numbers[j]);
+    text_add(out, "\n");
+}
+
+static int refused(const struct job *job, struct bytes *out)
+{
+    int number = run_number(job, RECORD_PLACES, WORK_PLACES, LENT_ROOM);
+    if (number == 0)
+        return 0;
+    text_add(out, "R %d %ld\n", number, number == job->number ? job->place : 0L);
+    return 1;
+}
+
+void lines_write(const struct job *job, const struct history *history, struct bytes *out)
+{
+    if (refused(job, out))
+        return;
+    for (int i = 0; i < job->questions; i++)
+        line_write(job, history, i, out);
+    text_add(out, "T %d %d\n", history->classes, history->idle);
+}
+
+/* Reads a number as the program writes it: digits, no leading zero. Gives -1 where there is none. */
+static long take_number(const char **at, const char *end)
+{
+    long value = 0;
+    const char *from = *at;
+    while (*at < end && **at >= '0' && **at <= '9' && *at - from < 6)
+        value = value * 10 + (*(*at)++ - '0');
+    return *at == from || (*at - from > 1 && *from == '0') ? -1 : value;
+}
+
+/* What is wrong with a line `E s t k n1 .. nk` (without its end), or NULL. */
+static const char *reason_line_fault(const struct job *job, const struct history *history, int question, const char *at,
+                                     const char *end)
+{
+    static const char *const points[] = {NULL,
+                                         "the numbers do not rise or do not stand before the question",
+                                         "the list does not entail the equality",
+                                         "the last number is not the first k, or a tag and itself have a list",
+                                         "a record can be spared",
+                                         "more than 2(N-1) numbers"};
+    const struct question *q = &job->question[question];
+    int numbers[MOST_RECORDS];
+    char front[64];
+    int length = snprintf(front, sizeof front, "E %d %d ", q->s, q->t);
+    if (end - at < length || memcmp(at, front, (size_t)length) != 0)
+        return "an E line with this question's tags is expected";
+    at += length;
+    long count = take_number(&at, end);
+    if (count < 0 || count > MOST_RECORDS)
+        return "the count is no count";
+    for (long i = 0; i < count; i++) {
+        if (at == end || *at++ != ' ')
+            return "fewer numbers than the count says";
+        long number = take_number(&at, end);
+        if (number < 0)
+            return "a number is expected";
+        numbers[i] = (int)number;
+    }
+    if (at != end)
+        return "more on the line than the count says";
+    return points[reason_fault(job, history, question, numbers, (int)count)];
+}
+
+static const char *line_fault(const struct job *job, const struct history *history, int i, const char *at, const char *end)
+{
+    if (i < job->questions && job->question[i].explain && history->moment[i].follows)
+        return reason_line_fault(job, history, i, at, end - 1);
+    struct bytes right = {0};
+    if (i < job->questions)
+        line_write(job, history, i, &right);
+    else
+        text_add(&right, "T %d %d\n", history->classes, history->idle);
+    int same = right.length == (size_t)(end - at) && memcmp(right.at, at, right.length) == 0;
+    free(right.at);
+    return same ? NULL : "another line is expected";
+}
+
+long text_judge(const struct job *job, const struct history *history, const char *text, size_t length, const char **what)
+{
+    const char *at = text, *all = text + length;
+    struct bytes right = {0};
+    if (refused(job, &right)) {
+        int same = right.length == length && memcmp(right.at, text, length) == 0;
+        free(right.at);
+        *what = same ? NULL : "another refusal is expected";
+        return same ? 0 : 1;
+    }
+    for (int i = 0; i <= job->questions; i++) {
+        const char *end = at == all ? NULL : memchr(at, '\n', (size_t)(all - at));
+        *what = end == NULL ? "the line is missing or has no end" : line_fault(job, history, i, at, end + 1);
+        if (*what != NULL)
+            return i + 1;
+        at = end + 1;
+    }
+    *what = at == all ? NULL : "more lines than expected";
+    return at == all ? 0 : job->questions + 2;
+}

@@ -1,0 +1,219 @@
+/* The damaged reports of damage.h: cuts, changed bytes, spare bytes, and for each kind of field what document 01 shuts out.
+   Rests on damage.h. */
+#include "damage.h"
+#include "random.h"
+
+#include <stdlib.h>
+#include <string.h>
+
+struct maker {
+    const struct job *job;
+    const struct history *history;
+    const struct bytes *report;
+    uint64_t state;
+    struct damaged out;
+    void (*use)(const struct damaged *damaged, void *with);
+    void *with;
+    size_t start, length; /* the field that is being damaged */
+};
+
+static void give(struct maker *m, const char *what, long place, int sure)
+{
+    m->out.what = what;
+    m->out.place = place;
+    m->out.sure = sure;
+    m->use(&m->out, m->with);
+}
+
+static size_t field_length(const struct bytes *report, size_t start)
+{
+    return 3 + (size_t)two_bytes(report->at + start + 1);
+}
+
+/* The report with the field at m->start replaced. */
+static void with_field(struct maker *m, const char *what, int kind, const int *numbers, int count)
+{
+    struct bytes *out = &m->out.report;
+    out->length = 0;
+    bytes_add(out, m->report->at, m->start);
+    byte_add(out, kind);
+    number_add(out, 2 * count);
+    for (int i = 0; i < count; i++)
+        number_add(out, numbers[i]);
+    bytes_add(out, m->report->at + m->start + m->length, m->report->length - m->start - m->length);
+    give(m, what, (long)m->start, 1);
+}
+
+static void cuts_and_bytes(struct maker *m)
+{
+    struct bytes *out = &m->out.report;
+    size_t step = m->report->length / 200 + 1, start = 0;
+    for (size_t at = 0; at < m->report->length; at += step) {
+        while (at >= start + field_length(m->report, start))
+            start += field_length(m->report, start);
+        out->length = 0;
+        bytes_add(out, m->report->at, at);
+        give(m, "cut", (long)start, 1);
+        out->length = 0;
+        bytes_add(out, m->report->at, m->report->length);
+        out->at[at] = (unsigned char)(out->at[at] + 1 + random_below(&m->state, 255));
+        give(m, "byte", (long)start, m->report->at[start] != KIND_REASON || at < start + 3);
+    }
+}
+
+static void spare_bytes(struct maker *m)
+{
+    struct bytes *out = &m->out.report;
+    out->length = 0;
+    bytes_add(out, m->report->at, m->report->length);
+    byte_add(out, 0);
+    give(m, "one spare byte", (long)m->report->length, 1);
+    byte_add(out, 0);
+    byte_add(out, 0);
+    give(m, "three spare bytes", (long)m->report->length, 1);
+    out->length = m->report->length;
+    bytes_add(out, m->report->at + m->report->length - 7, 7);
+    give(m, "the totals twice", (long)m->report->length, 1);
+}
+
+static void leaders(struct maker *m, const struct question *q, const struct moment *at)
+{
+    if (at->leader_s != at->leader_t)
+        with_field(m, "leaders swapped", KIND_LEADERS, (int[]){at->leader_t, at->leader_s}, 2);
+    with_field(m, "leader of s one higher", KIND_LEADERS, (int[]){at->leader_s + 1, at->leader_t}, 2);
+    with_field(m, "leader of t one higher", KIND_LEADERS, (int[]){at->leader_s, at->leader_t + 1}, 2);
+    if (q->s != at->leader_s || q->t != at->leader_t)
+        with_field(m, "tags for leaders", KIND_LEADERS, (int[]){q->s, q->t}, 2);
+    with_field(m, "one leader", KIND_LEADERS, (int[]){at->leader_s}, 1);
+    with_field(m, "three leaders", KIND_LEADERS, (int[]){at->leader_s, at->leader_t, 0}, 3);
+}
+
+static void not_following(struct maker *m, const struct question *q)
+{
+    int numbers[MOST_RECORDS];
+    for (int i = 0; i < q->before; i++)
+        numbers[i] = i + 1;
+    with_field(m, "84 with no number where it does not follow", KIND_REASON, numbers, 0);
+    with_field(m, "84 with every record where it does not follow", KIND_REASON, numbers, q->before);
+    if (q->before > 0)
+        with_field(m, "84 with one record where it does not follow", KIND_REASON,
+                   (int[]){1 + random_below(&m->state, q->before)}, 1);
+    with_field(m, "85 with a number", KIND_NOT, (int[]){0}, 1);
+}
+
+/* A list without the first k of which none can be spared, where there is one: the job is closed without record k. */
+static void later_last(struct maker *m, int question, int *numbers)
+{
+    static struct job other;
+    static struct history history;
+    const struct question *q = &m->job->question[question];
+    int k = m->history->moment[question].first;
+    other = *m->job;
+    other.record[k] = (struct record){0, 0, 0, 0};
+    other.question[0] = *q;
+    other.questions = 1;
+    history_of(&history, &other, m->history->way);
+    if (history.moment[0].follows)
+        with_field(m, "none to spare, but the last is later than the first k", KIND_REASON, numbers,
+                   reason_find(&other, &history, 0, 0, numbers));
+}
+
+static void with_reason(struct maker *m, int question)
+{
+    const struct question *q = &m->job->question[question];
+    int right[MOST_RECORDS + 1] = {0}, list[MOST_RECORDS + 1];
+    int count = two_bytes(m->report->at + m->start + 1) / 2;
+    for (int i = 0; i < count; i++)
+        right[i] = two_bytes(m->report->at + m->start + 3 + 2 * i);
+    with_field(m, "85 where it follows", KIND_NOT, right, 0);
+    with_field(m, "85 with the list", KIND_NOT, right, count > 0 ? count : 1);
+    for (int i = 0; i < q->before; i++)
+        list[i] = i + 1;
+    if (count < q->before)
+        with_field(m, "every record before the question", KIND_REASON, list, q->before);
+    memcpy(list, right, sizeof list);
+    if (count < q->before) { /* one too many: any number that is not in the list, put where it belongs */
+        int extra = 1, at = 0;
+        while (at < count && right[at] == extra)
+            extra++, at++;
+        memmove(list + at + 1, list + at, (size_t)(count - at) * sizeof *list);
+        list[at] = extra;
+        with_field(m, "one record too many", KIND_REASON, list, count + 1);
+        memcpy(list, right, sizeof list);
+    }
+    list[count] = q->before + 1;
+    with_field(m, "a record that does not stand before the question", KIND_REASON, list, count + 1);
+    if (count == 0)
+        return;
+    with_field(m, "no number", KIND_REASON, list, 0);
+    int i = random_below(&m->state, count);
+    memcpy(list, right, sizeof list);
+    memmove(list + i, list + i + 1, (size_t)(count - i - 1) * sizeof *list);
+    with_field(m, "a number missing", KIND_REASON, list, count - 1);
+    memcpy(list, right, sizeof list);
+    memmove(list + i + 1, list + i, (size_t)(count - i) * sizeof *list);
+    with_field(m, "a number doubled", KIND_REASON, list, count + 1);
+    with_field(m, "the last number missing", KIND_REASON, right, count - 1);
+    if (count > 1) {
+        memcpy(list, right, sizeof list);
+        i = random_below(&m->state, count - 1);
+        list[i] = right[i + 1];
+        list[i + 1] = right[i];
+        with_field(m, "two numbers swapped", KIND_REASON, list, count);
+    }
+    later_last(m, question, list);
+}
+
+static void totals(struct maker *m)
+{
+    int classes = m->history->classes, idle = m->history->idle;
+    with_field(m, "one class more", KIND_TOTALS, (int[]){classes + 1, idle}, 2);
+    with_field(m, "one class fewer", KIND_TOTALS, (int[]){classes - 1, idle}, 2);
+    with_field(m, "one idle record more", KIND_TOTALS, (int[]){classes, idle + 1}, 2);
+    if (idle > 0)
+        with_field(m, "one idle record fewer", KIND_TOTALS, (int[]){classes, idle - 1}, 2);
+    if (classes != idle)
+        with_field(m, "totals swapped", KIND_TOTALS, (int[]){idle, classes}, 2);
+}
+
+/* The field and the next change places; two reasons may each be right in the other's place, so that is not sure. */
+static void exchanged(struct maker *m)
+{
+    struct bytes *out = &m->out.report;
+    size_t next = m->start + m->length, length = field_length(m->report, next);
+    if (length == m->length && memcmp(m->report->at + m->start, m->report->at + next, length) == 0)
+        return;
+    out->length = 0;
+    bytes_add(out, m->report->at, m->start);
+    bytes_add(out, m->report->at + next, length);
+    bytes_add(out, m->report->at + m->start, m->length);
+    bytes_add(out, m->report->at + next + length, m->report->length - next - length);
+    give(m, "two fields exchanged", (long)m->start, m->report->at[m->start] != KIND_REASON || m->report->at[next] != KIND_REASON);
+}
+
+void each_damage(const struct job *job, const struct history *history, const struct bytes *report, uint64_t seed,
+                 void (*use)(const struct damaged *damaged, void *with), void *with)
+{
+    struct maker m = {.job = job, .history = history, .report = report, .state = seed, .use = use, .with = with};
+    cuts_and_bytes(&m);
+    spare_bytes(&m);
+    for (int i = 0; i <= job->questions; i++) {
+        m.length = field_length(report, m.start);
+        if (i == job->questions)
+            totals(&m);
+        else {
+            if (!job->question[i].explain)
+                leaders(&m, &job->question[i], &history->moment[i]);
+            else if (history->moment[i].follows)
+                with_reason(&m, i);
+            else
+                not_following(&m, &job->question[i]);
+            exchanged(&m);
+        }
+        m.start += m.length;
+    }
+    m.out.report.length = 0; /* reasons found in another order are right as well */
+    report_write(job, history, seed | 1, &m.out.report);
+    give(&m, "other reasons", -1, 1);
+    free(m.out.report.at);
+}

@@ -1,0 +1,146 @@
+/* Reading a job front to back, one field at a time, in document 01's order of checks. Rests on job.h only. */
+#include "job.h"
+
+int two_bytes(const unsigned char *at)
+{
+    return at[0] * 256 + at[1];
+}
+
+static int body_length(int kind)
+{
+    switch (kind) {
+    case KIND_TAGS:
+        return 2;
+    case KIND_EQUAL:
+    case KIND_ASK:
+    case KIND_EXPLAIN:
+        return 4;
+    case KIND_APPLY:
+        return 6;
+    case KIND_END:
+        return 0;
+    default:
+        return -1;
+    }
+}
+
+static int in_its_place(int kind, int first)
+{
+    return first ? kind == KIND_TAGS : kind != KIND_TAGS && body_length(kind) >= 0;
+}
+
+static int too_many(const struct job *job, int kind)
+{
+    switch (kind) {
+    case KIND_EQUAL:
+    case KIND_APPLY:
+        return job->records == MOST_RECORDS;
+    case KIND_ASK:
+    case KIND_EXPLAIN:
+        return job->questions == MOST_QUESTIONS;
+    default:
+        return 0;
+    }
+}
+
+static int numbers_in_range(const struct job *job, int kind, const unsigned char *body)
+{
+    if (kind == KIND_TAGS)
+        return two_bytes(body) >= 1 && two_bytes(body) <= MOST_TAGS;
+    for (int i = 0; i < body_length(kind); i += 2)
+        if (two_bytes(body + i) >= job->tags)
+            return 0;
+    return 1;
+}
+
+/* The first check that the field at `at` fails, in document 01's order, or 0. */
+static int field_refusal(const struct job *job, const unsigned char *bytes, size_t length, size_t at)
+{
+    if (length - at < 3)
+        return 3;
+    int kind = bytes[at];
+    if (!in_its_place(kind, at == 0))
+        return 4;
+    if (two_bytes(bytes + at + 1) != body_length(kind))
+        return 5;
+    if (length - at - 3 < (size_t)body_length(kind))
+        return 3;
+    if (too_many(job, kind))
+        return 7;
+    if (!numbers_in_range(job, kind, bytes + at + 3))
+        return 6;
+    return 0;
+}
+
+static void take_record(struct job *job, int kind, const unsigned char *body)
+{
+    struct record *r = &job->record[++job->records];
+    r->apply = kind == KIND_APPLY;
+    r->a = two_bytes(body);
+    r->b = two_bytes(body + 2);
+    r->c = r->apply ? two_bytes(body + 4) : 0;
+}
+
+static void take_question(struct job *job, int kind, const unsigned char *body)
+{
+    struct question *q = &job->question[job->questions++];
+    q->explain = kind == KIND_EXPLAIN;
+    q->s = two_bytes(body);
+    q->t = two_bytes(body + 2);
+    q->before = job->records;
+    long bound = 2L * (job->tags - 1);
+    long most = job->records < bound ? job->records : bound;
+    job->needed += q->explain ? 3 + 2 * most : 7;
+}
+
+void job_read(struct job *job, const unsigned char *bytes, size_t length)
+{
+    job->number = 0;
+    job->place = 0;
+    job->tags = 0;
+    job->records = 0;
+    job->questions = 0;
+    job->needed = 7;
+    if (length > LONGEST_JOB) {
+        job->number = 1;
+        return;
+    }
+    for (size_t at = 0;;) {
+        int refusal = field_refusal(job, bytes, length, at);
+        if (refusal != 0) {
+            job->number = refusal;
+            job->place = (long)at;
+            return;
+        }
+        int kind = bytes[at];
+        const unsigned char *body = bytes + at + 3;
+        at += 3 + (size_t)body_length(kind);
+        if (kind == KIND_TAGS)
+            job->tags = two_bytes(body);
+        else if (kind == KIND_EQUAL || kind == KIND_APPLY)
+            take_record(job, kind, body);
+        else if (kind == KIND_ASK || kind == KIND_EXPLAIN)
+            take_question(job, kind, body);
+        else if (at < length) {
+            job->number = 8;
+            job->place = (long)at;
+            return;
+        } else
+            return;
+    }
+}
+
+int recheck_number(const struct job *job, long record_places, long work_places)
+{
+    if (job->number == 1)
+        return 1;
+    if (record_places < RECORD_PLACES || work_places < WORK_PLACES)
+        return 2;
+    return job->number;
+}
+
+int run_number(const struct job *job, long record_places, long work_places, long room)
+{
+    int number = recheck_number(job, record_places, work_places);
+    return number == 0 && room < job->needed ? 9 : number;
+}

@@ -1,0 +1,66 @@
+/* A job read by document 01, sections "The job and the report" and "What is lent, and each refusal".
+   Written from that document alone; rests on nothing else here. */
+#ifndef JOB_H
+#define JOB_H
+
+#include <stddef.h>
+
+enum {
+    LONGEST_JOB = 43008,
+    MOST_TAGS = 1000,
+    MOST_RECORDS = 4000,
+    MOST_QUESTIONS = 1000,
+    RECORD_PLACES = 4000, /* named places of the record table */
+    WORK_PLACES = 32768,  /* named places of the work table */
+    LENT_ROOM = 60000     /* the report room that the program tagcheck lends */
+};
+
+enum {
+    KIND_TAGS = 0x10,
+    KIND_EQUAL = 0x01,
+    KIND_APPLY = 0x02,
+    KIND_ASK = 0x03,
+    KIND_EXPLAIN = 0x04,
+    KIND_END = 0x7F,
+    KIND_LEADERS = 0x83,
+    KIND_REASON = 0x84,
+    KIND_NOT = 0x85,
+    KIND_TOTALS = 0x8F
+};
+
+/* a = b, or f(a, b) = c. */
+struct record {
+    int apply;
+    int a, b, c;
+};
+
+struct question {
+    int explain;
+    int s, t;
+    int before; /* how many records stand before it */
+};
+
+/* Either a refusal with its place, or number 0 and what the job says. */
+struct job {
+    int number;
+    long place;
+    int tags;
+    int records;
+    int questions;
+    long needed; /* the report room that is needed */
+    struct record record[MOST_RECORDS + 1]; /* from 1 */
+    struct question question[MOST_QUESTIONS];
+};
+
+/* Reads a job: refusals 1 and 3 to 8, or 0. The refusals 2 and 9 depend on what is lent: see below. */
+void job_read(struct job *job, const unsigned char *bytes, size_t length);
+
+/* The number that a run gives with these loans; its place is the job's place, or 0. */
+int run_number(const struct job *job, long record_places, long work_places, long room);
+
+/* The number that a recheck gives before it looks at the report. */
+int recheck_number(const struct job *job, long record_places, long work_places);
+
+int two_bytes(const unsigned char *at);
+
+#endif

@@ -1,0 +1,5 @@
+pub mod Digits
+pub mod Putting
+pub mod Parts
+pub mod Walking
+pub mod Size

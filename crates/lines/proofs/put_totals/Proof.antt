@@ -1,0 +1,49 @@
+-- `lines::put_totals` meets its contract: the two numbers of the report's first field, as a line.
+-- Assumes nothing.
+use borrow.Author.Needs.{needs}
+use mathlib.Core.Path.{_≡_}
+use mathlib.Core.List.{List, [], _∷_}
+use Prim.Native.Nat.{ℕ}
+use denote.Ref.{now}
+use Rattle.job.specs.Reading.{numberAt}
+use Rattle.lines.specs.Lines.{line, totalsLine}
+use Rattle.lines.proofs.Putting.{put-as}
+use Rattle.lines.proofs.put_totals.Statement.{statement}
+use Rattle.lines.proofs.put_totals.Tie as tie
+
+number-requires : tie.Need-number-requires
+number-requires c κs = search needs
+
+wide-requires : tie.Need-wide-requires
+wide-requires c κs = search needs
+
+number-requires-2 : tie.Need-number-requires-2
+number-requires-2 c κs = search needs
+
+wide-requires-2 : tie.Need-wide-requires-2
+wide-requires-2 c κs = search needs
+
+put-pair-requires : tie.Need-put-pair-requires
+put-pair-requires c κs = search needs
+
+same-length : tie.Need-same-length
+same-length c = search needs
+
+returns : tie.Need-returns
+unfolding totalsLine
+returns c =
+    let report : List ℕ = now (c .before .before .before .before .before .before .before .before .before .before .args .report) in
+    let e : line 84 (c .before .before .before .before .before .wide .result ∷ c .before .before .before .wide2 .result ∷ []) ≡ line 84 (numberAt report 3 ∷ numberAt report 5 ∷ []) = cc in
+    put-as e (c .before .before .put-pair .ensures)
+
+pub put-totals-spec : {M : Type 1} → statement M
+put-totals-spec =
+    tie.close
+    (tie.spec
+    number-requires
+    wide-requires
+    number-requires-2
+    wide-requires-2
+    put-pair-requires
+    same-length
+    returns)

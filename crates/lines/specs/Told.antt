@@ -1,0 +1,58 @@
+-- What the code answers: where a text stands once it is put into a room of bytes, and whether all of it is there.
+-- Assumes nothing.
+use Prim.Native.Nat.{ℕ, _+_, _≤_, _<_, min}
+use mathlib.Core.Path.{_≡_}
+use mathlib.Core.List.{List, [], _++_}
+use lib.ListN.{length, take, drop}
+use lib.Seq.{sets}
+use Rattle.job.specs.Items.{Item, Reading, refused, accepted}
+use Rattle.job.specs.Reading.{Field, bad, header, item, end, reading}
+use Rattle.lines.specs.Lines.{lineOf, widthOf, totalsLine}
+use Rattle.lines.specs.declared.Told.{Told}
+use Rattle.lines.specs.declared.Told.the-variants.{Whole, Full}
+
+-- A text was put into the room from a place on, as far as the room goes, and the next byte stands behind it. One place past the
+-- room's end stands for every place further on: then the text did not fit.
+pub record Put (text room : List ℕ) (at : ℕ) (room′ : List ℕ) (next : ℕ) : Type 0 where
+  pub bytes : room′ ≡ sets room at text
+  pub place : next ≡ min (at + length text) (length room + 1)
+
+-- The whole text stands at the room's front and every byte behind it is as it was; or the text is longer than the room, which then
+-- holds as much of it as there is room for.
+pub data Tells (text room room′ : List ℕ) : Told → Type 0 where
+  whole : {n : ℕ} → n ≡ length text → room′ ≡ text ++ drop n room → Tells text room room′ (Whole n)
+  full : length room < length text → room′ ≡ take (length room) text → Tells text room room′ Full
+
+-- What the place behind a text says of it, with the length of the room.
+pub data Ended (next room : ℕ) : Told → Type 0 where
+  within : next ≤ room → Ended next room (Whole next)
+  past : room < next → Ended next room Full
+
+-- Part of a text is put, and the rest is still to come.
+pub record Half (text rest room : List ℕ) (at : ℕ) (room′ : List ℕ) (next : ℕ) : Type 0 where
+  pub done : List ℕ
+  pub put : Put done room at room′ next
+  pub left : done ++ rest ≡ text
+
+-- What a field of the job adds to the text, with the report from its own field on, and how far it goes in the report.
+abbrev pub textAt : Field → List ℕ → List ℕ
+textAt (item i) report = lineOf i report
+textAt end report = totalsLine report
+textAt (bad n) report = []
+textAt (header N) report = []
+
+abbrev pub widthAt : Field → List ℕ → ℕ
+widthAt (item i) report = widthOf i report
+widthAt end report = 0
+widthAt (bad n) report = 0
+widthAt (header N) report = 0
+
+-- The items of a job that is accepted.
+abbrev pub itemsIn : Reading → List Item
+itemsIn (refused n p) = []
+itemsIn (accepted N items) = items
+
+pub record Accepted (job : List ℕ) : Type 0 where
+  pub size : ℕ
+  pub items : List Item
+  pub reads : reading job ≡ accepted size items

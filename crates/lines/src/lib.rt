@@ -1,0 +1,297 @@
+// The lines that tagcheck writes. Document 01, "The program". A job and its report go in, and the text comes out in a room of bytes;
+// nothing here reads or writes a file. Rests on meaning and job.
+ghost use mathlib.Core.Path.{_≡_};
+ghost use mathlib.Core.List.{[], _∷_, _++_};
+ghost use Prim.Native.Nat.{_+_, _≤_, _<_, min};
+ghost use lib.ListN.{length, getD};
+ghost use lib.Seq.{slice};
+ghost use Rattle.job.specs.Reading.{byteAt, numberAt, reading};
+ghost use Rattle.job.specs.Answer.{said};
+ghost use Rattle.lines.specs.Lines.{digits, parted, line, numbersIn, bodyOf, askLine, explainLine, totalsLine, linesOf, refusalLine, textOf};
+ghost use Rattle.lines.specs.Told.{Put, Tells, Ended, textAt, widthAt, itemsIn, Accepted};
+use job::Answer;
+use job::Field;
+use job::number_of;
+use job::read;
+use job::read_job;
+use job::span;
+use meaning::Tag;
+
+// What became of a text: all of it stands at the front of the room, and so many bytes it has; or it is longer than the room.
+pub enum Told {
+    Whole(usize),
+    Full,
+}
+
+// The text so far ends before a place, and each function below puts more there and gives the place behind it. Past the room's end
+// nothing is stored, and the place is the first past that end.
+fn put(out: &mut [u8], at: usize, byte: u8) -> usize
+    ensures { λ r. ⌜ Put (byte ∷ []) (now (out .entry)) at (now (out .exit)) r ⌝ }
+{
+    if at < out.len() {
+        out[at] = byte;
+        at + 1
+    } else {
+        out.len() + 1
+    }
+}
+
+// The byte of a digit.
+fn digit(n: usize) -> u8
+    requires { ⌜ n < 10 ⌝ }
+    ensures { λ r. ⌜ r ≡ 48 + n ⌝ }
+{
+    48 + n as u8
+}
+
+// A number in decimal: the digits before the last one are those of its tenth part.
+fn put_number(out: &mut [u8], at: usize, n: usize) -> usize
+    ensures { λ r. ⌜ Put (digits n) (now (out .entry)) at (now (out .exit)) r ⌝ }
+{
+    if n < 10 {
+        put(out, at, digit(n))
+    } else {
+        let next = put_number(out, at, n / 10);
+        put(out, next, digit(n % 10))
+    }
+}
+
+// A number of a line, with the space before it.
+fn put_parted(out: &mut [u8], at: usize, n: usize) -> usize
+    ensures { λ r. ⌜ Put (parted (n ∷ [])) (now (out .entry)) at (now (out .exit)) r ⌝ }
+{
+    let next = put(out, at, b' ');
+    put_number(out, next, n)
+}
+
+// A line's letter and its first two numbers.
+fn open_line(out: &mut [u8], at: usize, letter: u8, s: usize, t: usize) -> usize
+    ensures { λ r. ⌜ Put (letter ∷ parted (s ∷ t ∷ [])) (now (out .entry)) at (now (out .exit)) r ⌝ }
+{
+    let first = put(out, at, letter);
+    let second = put_parted(out, first, s);
+    put_parted(out, second, t)
+}
+
+// A line of two numbers.
+fn put_pair(out: &mut [u8], at: usize, letter: u8, s: usize, t: usize) -> usize
+    ensures { λ r. ⌜ Put (line letter (s ∷ t ∷ [])) (now (out .entry)) at (now (out .exit)) r ⌝ }
+{
+    let next = open_line(out, at, letter, s, t);
+    put(out, next, b'\n')
+}
+
+// The line of an ask.
+fn put_ask(out: &mut [u8], at: usize, s: usize, t: usize, l: usize, m: usize) -> usize
+    ensures { λ r. ⌜ Put (askLine s t l m) (now (out .entry)) at (now (out .exit)) r ⌝ }
+{
+    if l == m {
+        let next = open_line(out, at, b'S', s, t);
+        let last = put_parted(out, next, l);
+        put(out, last, b'\n')
+    } else {
+        let next = open_line(out, at, b'D', s, t);
+        let third = put_parted(out, next, l);
+        let last = put_parted(out, third, m);
+        put(out, last, b'\n')
+    }
+}
+
+fn wide(x: u16) -> usize
+    ensures { λ r. ⌜ r ≡ x ⌝ }
+{
+    x as usize
+}
+
+// A byte of the report; one that is not there counts as 0.
+fn byte(report: &[u8], at: usize) -> u8
+    ensures { λ r. ⌜ r ≡ byteAt (now (report .entry)) at ⌝ }
+{
+    if at < report.len() { report[at] } else { 0 }
+}
+
+// A number of the report: two bytes, high byte first.
+fn number(report: &[u8], at: usize) -> u16
+    requires { ⌜ at ≤ length (now report) + 5 ⌝ }
+    ensures { λ r. ⌜ r ≡ numberAt (now (report .entry)) at ⌝ }
+{
+    let high = byte(report, at) as u16;
+    let low = byte(report, at + 1) as u16;
+    high * 256 + low
+}
+
+// The bytes of the report's first field that are there.
+fn width(report: &[u8]) -> usize
+    ensures { λ r. ⌜ r ≡ min (3 + numberAt (now (report .entry)) 1) (length (now (report .entry))) ⌝ }
+{
+    let whole = 3 + wide(number(report, 1));
+    if whole < report.len() {
+        whole
+    } else {
+        report.len()
+    }
+}
+
+// Where the first field's body begins, at the third byte or where the report stops before it.
+fn body_start(stop: usize) -> usize
+    ensures { λ r. ⌜ r ≡ min 3 stop ⌝ }
+{
+    if stop < 3 { stop } else { 3 }
+}
+
+// The numbers of a part of the report, each with the space before it.
+fn put_numbers(report: &[u8], from: usize, stop: usize, out: &mut [u8], at: usize) -> usize
+    requires { ⌜ stop ≤ length (now report) ⌝ }
+    requires { ⌜ from ≤ stop ⌝ }
+    requires { ⌜ at ≤ length (now out) + 1 ⌝ }
+    ensures { λ r. ⌜ Put (parted (numbersIn (slice from stop (now (report .entry))))) (now (out .entry)) at (now (out .exit)) r ⌝ }
+{
+    let mut p = from;
+    let mut next = at;
+    while stop - p >= 2 {
+        next = put_parted(out, next, wide(number(report, p)));
+        p += 2;
+    }
+    next
+}
+
+// The line of a reason: the numbers of the body of the report's first field, as far as they are there.
+fn put_reason(report: &[u8], s: usize, t: usize, out: &mut [u8], at: usize) -> usize
+    ensures { λ r. do
+      let ns = numbersIn (bodyOf (now (report .entry)))
+      ⌜ Put (line 69 (s ∷ t ∷ length ns ∷ ns)) (now (out .entry)) at (now (out .exit)) r ⌝ }
+{
+    let stop = width(report);
+    let from = body_start(stop);
+    let next = open_line(out, at, b'E', s, t);
+    let third = put_parted(out, next, (stop - from) / 2);
+    let last = put_numbers(report, from, stop, out, third);
+    put(out, last, b'\n')
+}
+
+// The line of an explain: a reason where the report's first field is of kind 84 hex.
+fn put_explain(report: &[u8], s: usize, t: usize, out: &mut [u8], at: usize) -> usize
+    ensures { λ r. do
+      let ns = numbersIn (bodyOf (now (report .entry)))
+      ⌜ Put (explainLine s t (byteAt (now (report .entry)) 0) ns) (now (out .entry)) at (now (out .exit)) r ⌝ }
+{
+    if byte(report, 0) == 0x84 {
+        put_reason(report, s, t, out, at)
+    } else {
+        put_pair(out, at, b'N', s, t)
+    }
+}
+
+// The line of the totals.
+fn put_totals(report: &[u8], out: &mut [u8], at: usize) -> usize
+    ensures { λ r. ⌜ Put (totalsLine (now (report .entry))) (now (out .entry)) at (now (out .exit)) r ⌝ }
+{
+    put_pair(
+        out,
+        at,
+        b'T',
+        wide(number(report, 3)),
+        wide(number(report, 5)),
+    )
+}
+
+// The number of a tag, to be written.
+fn shown(tag: Tag) -> usize
+    ensures { λ r. ⌜ r ≡ tag .0 ⌝ }
+{
+    wide(tag.0)
+}
+
+// What a field of the job adds to the text, with the report from the field's own answer on.
+fn put_field(field: Field, report: &[u8], out: &mut [u8], at: usize) -> usize
+    requires { ⌜ at ≤ length (now out) + 1 ⌝ }
+    ensures { λ r. ⌜ Put (textAt (said field) (now (report .entry))) (now (out .entry)) at (now (out .exit)) r ⌝ }
+{
+    match field {
+        Field::Bad(_) => at,
+        Field::Header(_) => at,
+        Field::Equation(_, _) => at,
+        Field::Application(_, _, _) => at,
+        Field::Ask(s, t) => put_ask(
+            out,
+            at,
+            shown(s),
+            shown(t),
+            wide(number(report, 3)),
+            wide(number(report, 5)),
+        ),
+        Field::Explain(s, t) => put_explain(report, shown(s), shown(t), out, at),
+        Field::End => put_totals(report, out, at),
+    }
+}
+
+// How far a field of the job goes in the report: over the field of a question, as far as it is there.
+fn passed(field: Field, report: &[u8]) -> usize
+    ensures { λ r. ⌜ r ≡ min (widthAt (said field) (now (report .entry))) (length (now (report .entry))) ⌝ }
+{
+    match field {
+        Field::Bad(_) => 0,
+        Field::Header(_) => 0,
+        Field::Equation(_, _) => 0,
+        Field::Application(_, _, _) => 0,
+        Field::Ask(_, _) => width(report),
+        Field::Explain(_, _) => width(report),
+        Field::End => 0,
+    }
+}
+
+// The lines of an accepted job: field after field of the job, from behind the first one, with the report's fields beside them.
+fn put_items(job: &[u8], report: &[u8], out: &mut [u8]) -> usize
+    requires { ⌜ Accepted (now job) ⌝ }
+    ensures { λ r. ⌜ Put (linesOf (itemsIn (reading (now (job .entry)))) (now (report .entry))) (now (out .entry)) 0 (now (out .exit)) r ⌝ }
+{
+    let mut at = 5;
+    let mut from = 0;
+    let mut next = 0;
+    while at < job.len() {
+        let field = read(job, at);
+        let rest = &report[from..];
+        next = put_field(field, rest, out, next);
+        from += passed(field, rest);
+        at += span(field);
+    }
+    next
+}
+
+// Whether a text that ends before a place is whole in a room of so many bytes.
+fn ending(next: usize, room: usize) -> Told
+    ensures { λ r. ⌜ Ended next room r ⌝ }
+{
+    if next <= room {
+        Told::Whole(next)
+    } else {
+        Told::Full
+    }
+}
+
+// The single line of a refusal, by its number and place.
+pub fn tell_refusal(number: u8, place: usize, out: &mut [u8]) -> Told
+    ensures { λ r. ⌜ Tells (refusalLine number place) (now (out .entry)) (now (out .exit)) r ⌝ }
+{
+    let next = put_pair(out, 0, b'R', number as usize, place);
+    ending(next, out.len())
+}
+
+// The lines of a job and its report; the line of the refusal, where reading refuses the job.
+pub fn tell_report(job: &[u8], report: &[u8], out: &mut [u8]) -> Told
+    ensures { λ r. ⌜ Tells (textOf (reading (now (job .entry))) (now (report .entry))) (now (out .entry)) (now (out .exit)) r ⌝ }
+{
+    let answer = read_job(job);
+    match answer {
+        Answer::Refused { fault, place } => tell_refusal(number_of(fault), place, out),
+        Answer::Accepted {
+            size: _,
+            records: _,
+            questions: _,
+            room: _,
+        } => {
+            let next = put_items(job, report, out);
+            ending(next, out.len())
+        }
+    }
+}
