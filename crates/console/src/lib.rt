@@ -1,4 +1,4 @@
-// Standard input, standard output and standard error, for a program that reads all it wants, calls, and writes once. No contract can say
+// Standard input, standard output, standard error and open files, for a program that reads all it wants, calls, and writes once. No contract can say
 // which bytes are read or written; how many is proved. Rests on the kit's io and on libc, whose read and write are assumed.
 ghost use lib.ListN.{length};
 ghost use Rattle.console.specs.Counted.{Brought, Counted};
@@ -16,10 +16,10 @@ pub enum Step {
     Failed,
 }
 
-fn read_some(part: &mut [u8]) -> Step
+fn read_some(descriptor: i32, part: &mut [u8]) -> Step
     ensures { λ r. ⌜ Brought (length (now (part .entry))) r ⌝ }
 {
-    let got = libc::read(libc::STDIN_FILENO, part);
+    let got = libc::read(descriptor, part);
     if got < 0 {
         return Step::Failed;
     }
@@ -30,13 +30,13 @@ fn read_some(part: &mut [u8]) -> Step
     Step::More(n)
 }
 
-// Reads standard input until the slice is full or the input ends.
-pub fn read_input(room: &mut [u8]) -> Got
+// Reads from a descriptor until the slice is full or the input ends.
+pub fn read_from(descriptor: i32, room: &mut [u8]) -> Got
     ensures { λ r. ⌜ Counted (length (now (room .entry))) r ⌝ }
 {
     let mut done = 0;
     while done < room.len() {
-        let step = read_some(&mut room[done..]);
+        let step = read_some(descriptor, &mut room[done..]);
         match step {
             Step::More(n) => {
                 done += n;
@@ -50,6 +50,13 @@ pub fn read_input(room: &mut [u8]) -> Got
         }
     }
     Got::Bytes(done)
+}
+
+// Reads standard input until the slice is full or the input ends.
+pub fn read_input(room: &mut [u8]) -> Got
+    ensures { λ r. ⌜ Counted (length (now (room .entry))) r ⌝ }
+{
+    read_from(libc::STDIN_FILENO, room)
 }
 
 // Writes all the bytes, or answers false.

@@ -1,9 +1,9 @@
--- `console::read_input` meets its contract. The invariant: what was read lies within the room, which keeps its length. The measure is what is
+-- `console::read_from` meets its contract. The invariant: what was read lies within the room, which keeps its length. The measure is what is
 -- left of the room, and each read that goes on brings a byte or more.
 -- Assumes nothing.
 use borrow.Author.Needs.{needs}
-use Rattle.console.proofs.read_input.Statement.{statement}
-use Rattle.console.proofs.read_input.Tie as tie
+use Rattle.console.proofs.read_from.Statement.{statement}
+use Rattle.console.proofs.read_from.Tie as tie
 use mathlib.Core.Path.{_≡_, _∙_}
 use mathlib.Core.List.{List}
 use Prim.Native.Nat.{ℕ, _-_, _≤_}
@@ -16,10 +16,10 @@ use Rattle.console.specs.Counted.{bytes, broken}
 use Rattle.console.proofs.Bringing.{brought-more}
 
 abbrev Inv-loop : tie.InvT-loop
-Inv-loop room₀ done₀ room done = (done ≤ length room) × (length room ≡ length room₀)
+Inv-loop descriptor room₀ done₀ room done = (done ≤ length room) × (length room ≡ length room₀)
 
 abbrev μ-loop : tie.MeasureT-loop
-μ-loop room₀ done₀ room done = length room₀ - done
+μ-loop descriptor room₀ done₀ room done = length room₀ - done
 
 loop-holds : tie.Need-loop-holds Inv-loop μ-loop
 loop-holds c = search needs
@@ -56,7 +56,7 @@ loop-less c = omega (arith, brought c)
 loop-again : tie.Need-loop-again Inv-loop μ-loop
 loop-again c =
     let head = c .before .before .before .before .before .before .before .before .loop in
-    let kept = same-len-mid (head .done) (length (head .room) - head .done) (head .room) (c .before .before .before .before .before .read-some .last .0) (c .before .before .before .before .before .read-some .kept .0) in
+    let kept = same-len-mid (head .done) (length (head .room) - head .done) (head .room) (c .before .before .before .before .before .read-some .last .1 .0) (c .before .before .before .before .before .read-some .kept .1 .0) in
     (omega (arith, brought c, kept), kept ∙ head .inv .1)
 
 enum-told : tie.Need-enum-told Inv-loop μ-loop
@@ -83,8 +83,8 @@ same-length-3 c = search needs
 returns-3 : tie.Need-returns-3 Inv-loop μ-loop
 returns-3 c = bytes {n = c .before .loop .done} (omega arith)
 
-pub read-input-spec : {M : Type 1} → statement M
-read-input-spec =
+pub read-from-spec : {M : Type 1} → statement M
+read-from-spec =
     tie.close
     (tie.spec
     Inv-loop
