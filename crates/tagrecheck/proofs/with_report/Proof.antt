@@ -1,0 +1,37 @@
+-- `tagrecheck::with_report` is safe: the part that is lent was tested to lie within the bytes.
+-- Assumes nothing.
+use borrow.Author.Needs.{needs}
+use Rattle.tagrecheck.proofs.with_report.Statement.{statement}
+use Rattle.tagrecheck.proofs.with_report.Tie as tie
+use mathlib.Core.Path.{sym}
+use native.Mathlib.Omega.{arith}
+use lib.Seq.{length-take-le}
+
+slice-aggregate-serve : tie.Need-slice-aggregate-serve
+slice-aggregate-serve c = sym (length-take-le _ _ (omega arith))
+
+serve-requires : tie.Need-serve-requires
+serve-requires c κs = search needs
+
+slice-aggregate-write-error : tie.Need-slice-aggregate-write-error
+slice-aggregate-write-error c = search needs
+
+write-error-requires : tie.Need-write-error-requires
+write-error-requires c κs = search needs
+
+returns : tie.Need-returns
+returns c = search needs
+
+returns-2 : tie.Need-returns-2
+returns-2 c = search needs
+
+pub with-report-spec : {M : Type 1} → statement M
+with-report-spec =
+    tie.close
+    (tie.spec
+    slice-aggregate-serve
+    serve-requires
+    slice-aggregate-write-error
+    write-error-requires
+    returns
+    returns-2)

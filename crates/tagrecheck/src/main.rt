@@ -1,0 +1,108 @@
+// tagrecheck: rechecks a report against its job, both files named by arguments, and writes the line `number place`. Document 01, "What is lent, and
+// each refusal". It only reads, calls and writes: the recheck is haltzurme's, through calls; the line is made by lines.
+// Rests on these, on console and on the kit's os.
+use calls::recheck_report;
+use console::Got;
+use console::read_from;
+use console::write_error;
+use console::write_output;
+use lines::Told;
+use lines::tell_refusal;
+
+// Writes the line of an answer: what stands behind the letter and the space of the line `R number place`.
+fn line(text: &[u8], n: usize) {
+    if n <= text.len() {
+        if n >= 2 {
+            if !write_output(&text[2..n]) {
+                write_error(b"tagrecheck: standard output cannot be written\n");
+            }
+        }
+    }
+}
+
+// 60 bytes hold the longest line.
+fn answer(number: u8, place: usize) {
+    let mut space = [0u8; 60];
+    let text: &mut [u8] = &mut space;
+    let told = tell_refusal(number, place, text);
+    match told {
+        Told::Whole(n) => {
+            line(text, n);
+        }
+        Told::Full => {
+            write_error(b"tagrecheck: the line does not fit\n");
+        }
+    }
+}
+
+// Lends the recheck the work table.
+fn serve(job: &[u8], report: &[u8]) {
+    let mut work_space = [0u16; 32768];
+    let work: &mut [u16] = &mut work_space;
+    let found = recheck_report(job, report, work);
+    answer(found.number, found.place);
+}
+
+// The bytes that were read are the report. One more than are kept says that the file is longer.
+fn with_report(job: &[u8], kept: &[u8], n: usize) {
+    if n < kept.len() {
+        serve(job, &kept[..n]);
+    } else {
+        write_error(b"tagrecheck: the report is longer than 300000 bytes\n");
+    }
+}
+
+// Reads the file that an argument names to the front of the room, or says why it cannot.
+fn read_file(argument: usize, room: &mut [u8]) -> Got {
+    let mut path = io::buffer();
+    let length = os::arg(argument, &mut path);
+    if os::errno() != 0 {
+        write_error(b"tagrecheck: two file names are wanted, a job and a report\n");
+        return Got::Broken;
+    }
+    let descriptor = os::open_read(&path[..length]);
+    if descriptor < 0 {
+        os::fail(&path[..length]);
+        return Got::Broken;
+    }
+    let got = read_from(descriptor, room);
+    libc::close(descriptor);
+    got
+}
+
+// Keeps at most 300,000 bytes of the report.
+fn with_job(job: &[u8]) {
+    let mut space = [0u8; 300001];
+    let kept: &mut [u8] = &mut space;
+    let got = read_file(2, kept);
+    match got {
+        Got::Bytes(n) => {
+            with_report(job, kept, n);
+        }
+        Got::Broken => {
+            write_error(b"tagrecheck: the report cannot be read\n");
+        }
+    }
+}
+
+// The bytes that were read are the job. More than were lent are never read: console's contract.
+fn front(kept: &[u8], n: usize) {
+    if n <= kept.len() {
+        with_job(&kept[..n]);
+    }
+}
+
+// Keeps at most 43,009 bytes of the job, one more than the longest job allowed.
+fn main() {
+    let mut space = [0u8; 43009];
+    let kept: &mut [u8] = &mut space;
+    let got = read_file(1, kept);
+    match got {
+        Got::Bytes(n) => {
+            front(kept, n);
+        }
+        Got::Broken => {
+            write_error(b"tagrecheck: the job cannot be read\n");
+        }
+    }
+}
