@@ -1,3 +1,4 @@
 pub mod Lists
 pub mod Right
 pub mod Going
+pub mod Verdicts
