@@ -1,4 +1,3 @@
 pub mod Lists
 pub mod Right
 pub mod Going
-pub mod Verdicts
