@@ -1,0 +1,64 @@
+-- `run_cases::hex` is safe and ends: the measure is what is left.
+-- Assumes nothing.
+use borrow.Author.Needs.{needs}
+use Rattle.run_cases.proofs.hex.Statement.{statement}
+use Rattle.run_cases.proofs.hex.Tie as tie
+use Prim.Native.Nat.{_-_}
+use lib.ListN.{length}
+
+abbrev Inv-loop : tie.InvT-loop
+Inv-loop bytes n i₀ t4 i = Unit {0}
+
+abbrev μ-loop : tie.MeasureT-loop
+μ-loop bytes n i₀ t4 i = n - i
+
+loop-holds : tie.Need-loop-holds Inv-loop μ-loop
+loop-holds c = search needs
+
+shared-slice-read-wide : tie.Need-shared-slice-read-wide Inv-loop μ-loop
+shared-slice-read-wide c = search needs
+
+wide-requires : tie.Need-wide-requires Inv-loop μ-loop
+wide-requires c κs = search needs
+
+long-requires : tie.Need-long-requires Inv-loop μ-loop
+long-requires c κs = search needs
+
+print-hex-requires : tie.Need-print-hex-requires Inv-loop μ-loop
+print-hex-requires c κs = search needs
+
+add-i : tie.Need-add-i Inv-loop μ-loop
+add-i c = search needs
+
+loop-less : tie.Need-loop-less Inv-loop μ-loop
+loop-less c = search needs
+
+loop-again : tie.Need-loop-again Inv-loop μ-loop
+loop-again c = search needs
+
+slice-aggregate-say : tie.Need-slice-aggregate-say Inv-loop μ-loop
+slice-aggregate-say c = search needs
+
+say-requires : tie.Need-say-requires Inv-loop μ-loop
+say-requires c κs = search needs
+
+returns : tie.Need-returns Inv-loop μ-loop
+returns c = search needs
+
+pub hex-spec : {M : Type 1} → statement M
+hex-spec =
+    tie.close
+    (tie.spec
+    Inv-loop
+    μ-loop
+    loop-holds
+    shared-slice-read-wide
+    wide-requires
+    long-requires
+    print-hex-requires
+    add-i
+    loop-less
+    loop-again
+    slice-aggregate-say
+    say-requires
+    returns)

@@ -1,0 +1,53 @@
+-- `run_cases::run_with` is safe: the part that is lent was tested to lie within the table.
+-- Assumes nothing.
+use borrow.Author.Needs.{needs}
+use Rattle.run_cases.proofs.run_with.Statement.{statement}
+use Rattle.run_cases.proofs.run_with.Tie as tie
+use mathlib.Core.Path.{sym}
+use native.Mathlib.Omega.{arith}
+use lib.Seq.{length-take-le}
+
+slice-relend-prefix-run-job : tie.Need-slice-relend-prefix-run-job
+slice-relend-prefix-run-job c = search needs
+
+slice-aggregate-run-job : tie.Need-slice-aggregate-run-job
+slice-aggregate-run-job c = sym (length-take-le _ _ (omega arith))
+
+run-job-requires : tie.Need-run-job-requires
+run-job-requires c κs = search needs
+
+run-job-requires-2 : tie.Need-run-job-requires-2
+run-job-requires-2 c κs = search needs
+
+same-length : tie.Need-same-length
+same-length c = search needs
+
+same-length-2 : tie.Need-same-length-2
+same-length-2 c = search needs
+
+returns : tie.Need-returns
+returns c = search needs
+
+same-length-3 : tie.Need-same-length-3
+same-length-3 c = search needs
+
+same-length-4 : tie.Need-same-length-4
+same-length-4 c = search needs
+
+returns-2 : tie.Need-returns-2
+returns-2 c = search needs
+
+pub run-with-spec : {M : Type 1} → statement M
+run-with-spec =
+    tie.close
+    (tie.spec
+    slice-relend-prefix-run-job
+    slice-aggregate-run-job
+    run-job-requires
+    run-job-requires-2
+    same-length
+    same-length-2
+    returns
+    same-length-3
+    same-length-4
+    returns-2)
