@@ -1,43 +1,28 @@
-use borrow.Author.Needs.{needs}
+-- `hold` meets its contract. The labels that are saved are those of the closure of the list.
+-- Assumes nothing.
+use mathlib.Core.Path.{_∙_}
+use native.Mathlib.Omega.{arith}
+use Rattle.closure.proofs.Moments.{entails-start, hold-done}
 use Rattle.closure.proofs.hold.Statement.{statement}
 use Rattle.closure.proofs.hold.Tie as tie
-use Rattle.closure.proofs.hold.Reads as reads
-use Rattle.closure.proofs.hold.Lts as lts
-use Rattle.closure.proofs.fresh.Reads as fresh-reads
-use Rattle.closure.proofs.level.Reads as level-reads
-use Rattle.closure.proofs.save.Reads as save-reads
-use Rattle.closure.proofs.settle.Reads as settle-reads
-use mathlib.Core.Path.{_≡_, refl, sym, ap, _∙_}
-use mathlib.Core.List.{List, map}
-use Prim.Native.Nat.{ℕ, zero, suc, _+_, _-_, _*_, _≤_, _<_}
-use native.Mathlib.Omega.{arith}
-use lib.ListN.{length, getD, set, take, drop, length-set}
-use mathlib.Core.Logic.{⊎-elim}
-use denote.Ref.{now}
 
--- src/lib.rt:453:5
 fresh-requires : tie.Need-fresh-requires
-fresh-requires c κs = ?
+fresh-requires c κs = c .before .before .pre .0 .loaded .long
 
--- src/lib.rt:460:9
 settle-requires : tie.Need-settle-requires
-settle-requires c κs = ?
+settle-requires c κs = entails-start (c .before .before .before .before .before .before .pre .0) (c .before .before .before .fresh .ensures)
 
--- src/lib.rt:461:5
 save-requires : tie.Need-save-requires
-save-requires c κs = ?
+save-requires c κs = c .before .before .before .settle .ensures .state .listed .loaded .long
 
--- src/lib.rt:464:15
 level-requires : tie.Need-level-requires
-level-requires c κs = ?
+level-requires c κs = let p = c .before .before .before .before .before .before .before .before .before .before .before .before .before .before .pre in (omega (arith, c .before .before .before .save .ensures .frame .size, c .before .before .before .before .before .before .before .settle .ensures .state .listed .loaded .long), omega (arith, p .1, p .0 .loaded .few), omega (arith, p .2, p .0 .loaded .few))
 
--- src/lib.rt:449:1
 same-length : tie.Need-same-length
-same-length c = ?
+same-length c = c .before .before .before .before .save .ensures .frame .size ∙ c .before .before .before .before .before .before .before .before .settle .ensures .kept .frame .size ∙ c .before .before .before .before .before .before .before .before .before .before .before .before .fresh .ensures .frame .size
 
--- src/lib.rt:449:1
 returns : tie.Need-returns
-returns c = ?
+returns c = hold-done (c .before .before .before .before .before .before .before .before .before .before .before .before .fresh .ensures .frame) (c .before .before .before .before .before .before .before .before .settle .ensures) (c .before .before .before .before .save .ensures) (c .level .ensures)
 
 pub hold-spec : {M : Type 1} → statement M
 hold-spec =

@@ -1,44 +1,32 @@
+-- `restore` meets its contract. The part that is lent holds the labels and what is saved of them.
+-- Assumes nothing.
 use borrow.Author.Needs.{needs}
+use mathlib.Core.Path.{refl}
+use denote.Ref.{now}
+use Rattle.closure.proofs.Views.{restored}
 use Rattle.closure.proofs.restore.Statement.{statement}
 use Rattle.closure.proofs.restore.Tie as tie
-use Rattle.closure.proofs.restore.Reads as reads
-use Rattle.closure.proofs.restore.Lts as lts
-use Rattle.closure.proofs.lower.Reads as lower-reads
-use mathlib.Core.Path.{_≡_, refl, sym, ap, _∙_}
-use mathlib.Core.List.{List, map}
-use Prim.Native.Nat.{ℕ, zero, suc, _+_, _-_, _*_, _≤_, _<_}
-use native.Mathlib.Omega.{arith}
-use lib.ListN.{length, getD, set, take, drop, length-set}
-use mathlib.Core.Logic.{⊎-elim}
-use denote.Ref.{now}
 
--- src/lib.rt:169:11
 sub-lower : tie.Need-sub-lower
-sub-lower c = ?
+sub-lower c = search needs
 
--- src/lib.rt:169:11
 part-lower-start : tie.Need-part-lower-start
-part-lower-start c = ?
+part-lower-start c = search needs
 
--- src/lib.rt:169:11
 part-lower-end : tie.Need-part-lower-end
-part-lower-end c = ?
+part-lower-end c = search needs
 
--- src/lib.rt:169:36
 sub-lower-2 : tie.Need-sub-lower-2
-sub-lower-2 c = ?
+sub-lower-2 c = search needs
 
--- src/lib.rt:169:5
 lower-requires : tie.Need-lower-requires
-lower-requires c κs = ?
+lower-requires c κs = search needs
 
--- src/lib.rt:165:1
 same-length : tie.Need-same-length
-same-length c = ?
+same-length c = search needs
 
--- src/lib.rt:165:1
 returns : tie.Need-returns
-returns c = ?
+returns c = restored (now (c .before .before .before .before .before .args .work)) _ (c .before .before .lower .last .0) (c .before .before .before .before .before .pre) (c .before .before .lower .kept .0) refl (c .before .before .lower .ensures)
 
 pub restore-spec : {M : Type 1} → statement M
 restore-spec =

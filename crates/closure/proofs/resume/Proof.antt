@@ -1,38 +1,25 @@
-use borrow.Author.Needs.{needs}
+-- `resume` meets its contract. The saved labels are sound for the list, so that the closure may begin with them.
+-- Assumes nothing.
+use mathlib.Core.Path.{_∙_}
+use native.Mathlib.Omega.{arith}
+use Rattle.closure.proofs.Moments.{resume-start, entails-done}
 use Rattle.closure.proofs.resume.Statement.{statement}
 use Rattle.closure.proofs.resume.Tie as tie
-use Rattle.closure.proofs.resume.Reads as reads
-use Rattle.closure.proofs.resume.Lts as lts
-use Rattle.closure.proofs.level.Reads as level-reads
-use Rattle.closure.proofs.restore.Reads as restore-reads
-use Rattle.closure.proofs.settle.Reads as settle-reads
-use mathlib.Core.Path.{_≡_, refl, sym, ap, _∙_}
-use mathlib.Core.List.{List, map}
-use Prim.Native.Nat.{ℕ, zero, suc, _+_, _-_, _*_, _≤_, _<_}
-use native.Mathlib.Omega.{arith}
-use lib.ListN.{length, getD, set, take, drop, length-set}
-use mathlib.Core.Logic.{⊎-elim}
-use denote.Ref.{now}
 
--- src/lib.rt:481:5
 restore-requires : tie.Need-restore-requires
-restore-requires c κs = ?
+restore-requires c κs = c .before .before .pre .0 .loaded .long
 
--- src/lib.rt:488:5
 settle-requires : tie.Need-settle-requires
-settle-requires c κs = ?
+settle-requires c κs = resume-start (c .before .before .before .before .before .before .pre .0) (c .before .before .before .before .before .before .pre .1) (c .before .before .before .restore .ensures)
 
--- src/lib.rt:489:5
 level-requires : tie.Need-level-requires
-level-requires c κs = ?
+level-requires c κs = let p = c .before .before .before .before .before .before .before .before .before .before .pre in (c .before .before .before .settle .ensures .state .listed .loaded .long, omega (arith, p .2, p .0 .loaded .few), omega (arith, p .3, p .0 .loaded .few))
 
--- src/lib.rt:469:1
 same-length : tie.Need-same-length
-same-length c = ?
+same-length c = c .before .before .before .before .settle .ensures .kept .frame .size ∙ c .before .before .before .before .before .before .before .before .restore .ensures .frame .size
 
--- src/lib.rt:469:1
 returns : tie.Need-returns
-returns c = ?
+returns c = entails-done (c .before .before .before .before .before .before .before .before .restore .ensures .frame) (c .before .before .before .before .settle .ensures) (c .level .ensures)
 
 pub resume-spec : {M : Type 1} → statement M
 resume-spec =
