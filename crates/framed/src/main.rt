@@ -52,6 +52,10 @@ fn pair(n: usize) -> u16 {
     (n % 65536) as u16
 }
 
+fn low(n: u16) -> u8 {
+    (n % 256) as u8
+}
+
 // A number of four bytes, high byte first.
 fn number(a: u8, b: u8, c: u8, d: u8) -> usize {
     wide(a) * 16777216 + wide(b) * 65536 + wide(c) * 256 + wide(d)
@@ -68,20 +72,25 @@ fn next(count: usize) -> usize {
 
 // ---- rubbish ----
 
-// By turns a run through all numbers, one tag everywhere, numbers that rise by one, and the largest number everywhere.
+// Rubbish is what stands first and the step from each to the next. By turns: all numbers in disorder, one tag everywhere, numbers that rise by
+// one, the largest number everywhere, and zeros, which are none.
+const CLEAN: usize = 4;
+
 fn first_of(salt: usize) -> u16 {
-    let kind = salt % 4;
+    let kind = salt % 5;
     if kind == 1 {
-        pair(salt / 4 % 1000)
+        pair(salt % 1000)
     } else if kind == 3 {
         65535
+    } else if kind == CLEAN {
+        0
     } else {
-        pair(salt % 65521)
+        pair(salt)
     }
 }
 
 fn step_of(salt: usize) -> u16 {
-    let kind = salt % 4;
+    let kind = salt % 5;
     if kind == 0 {
         40503
     } else if kind == 2 {
@@ -120,8 +129,8 @@ fn kept_table(work: &[u16], zeros: usize, salt: usize) -> bool {
 }
 
 fn soil_room(room: &mut [u8], salt: usize) {
-    let step = byte(salt / 3);
-    let mut value = byte(salt);
+    let step = low(step_of(salt));
+    let mut value = low(first_of(salt));
     let mut i: usize = 0;
     while i < room.len() {
         room[i] = value;
@@ -132,8 +141,8 @@ fn soil_room(room: &mut [u8], salt: usize) {
 
 // Whether the rubbish behind the first so many bytes is as it was.
 fn kept_room(room: &[u8], from: usize, salt: usize) -> bool {
-    let step = byte(salt / 3);
-    let mut value = byte(salt);
+    let step = low(step_of(salt));
+    let mut value = low(first_of(salt));
     let mut good = true;
     let mut i: usize = 0;
     while i < room.len() {
@@ -241,6 +250,41 @@ fn put_report(job: &[u8], room: &[u8], n: usize, work: &mut [u16], places: usize
     }
 }
 
+// Whether two reports begin with the same bytes.
+fn same(a: &[u8], b: &[u8], n: usize) -> bool {
+    let mut good = n <= a.len() && n <= b.len();
+    let mut i: usize = 0;
+    while i < n && i < a.len() && i < b.len() {
+        if a[i] != b[i] {
+            good = false;
+        }
+        i += 1;
+    }
+    good
+}
+
+// Whether the run says the same, byte for byte, where nothing lent is dirty.
+fn alike(
+    job: &[u8],
+    room: &[u8],
+    work: &mut [u16],
+    size: usize,
+    places: usize,
+    ran: Answer,
+) -> bool {
+    let mut space = [0u8; 65536];
+    let clean: &mut [u8] = &mut space;
+    if size <= clean.len() {
+        let again = run_at(job, &mut clean[..size], work, places, CLEAN);
+        again.number == ran.number
+            && again.place == ran.place
+            && again.length == ran.length
+            && same(room, clean, ran.length)
+    } else {
+        false
+    }
+}
+
 // All that is written of a job with one loan.
 fn answer(job: &[u8], room: &mut [u8], work: &mut [u16], size: usize, places: usize, salt: usize) {
     if size <= room.len() {
@@ -249,6 +293,7 @@ fn answer(job: &[u8], room: &mut [u8], work: &mut [u16], size: usize, places: us
         soil_room(room, salt);
         let ran = run_at(job, &mut room[..size], work, places, salt);
         tell(kept_room(room, ran.length, salt));
+        tell(alike(job, room, work, size, places, ran));
         put_answer(b'R', ran.number, ran.place);
         put_report(job, room, ran.length, work, places, salt);
     }

@@ -31,6 +31,12 @@ kept-room-requires c κs = search needs
 tell-requires : tie.Need-tell-requires
 tell-requires c κs = search needs
 
+alike-requires : tie.Need-alike-requires
+alike-requires c κs = search needs
+
+tell-requires-2 : tie.Need-tell-requires-2
+tell-requires-2 c κs = search needs
+
 put-answer-requires : tie.Need-put-answer-requires
 put-answer-requires c κs = search needs
 
@@ -61,6 +67,8 @@ answer-spec =
     run-at-requires
     kept-room-requires
     tell-requires
+    alike-requires
+    tell-requires-2
     put-answer-requires
     put-report-requires
     same-length

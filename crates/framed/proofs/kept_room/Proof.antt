@@ -12,11 +12,17 @@ Inv-loop room from salt step value₀ good₀ i₀ value good i = Unit {0}
 abbrev μ-loop : tie.MeasureT-loop
 μ-loop room from salt step value₀ good₀ i₀ value good i = length room - i
 
-byte-requires : tie.Need-byte-requires Inv-loop μ-loop
-byte-requires c κs = search needs
+step-of-requires : tie.Need-step-of-requires Inv-loop μ-loop
+step-of-requires c κs = search needs
 
-byte-requires-2 : tie.Need-byte-requires-2 Inv-loop μ-loop
-byte-requires-2 c κs = search needs
+low-requires : tie.Need-low-requires Inv-loop μ-loop
+low-requires c κs = search needs
+
+first-of-requires : tie.Need-first-of-requires Inv-loop μ-loop
+first-of-requires c κs = search needs
+
+low-requires-2 : tie.Need-low-requires-2 Inv-loop μ-loop
+low-requires-2 c κs = search needs
 
 loop-holds : tie.Need-loop-holds Inv-loop μ-loop
 loop-holds c = search needs
@@ -45,8 +51,10 @@ kept-room-spec =
     (tie.spec
     Inv-loop
     μ-loop
-    byte-requires
-    byte-requires-2
+    step-of-requires
+    low-requires
+    first-of-requires
+    low-requires-2
     loop-holds
     shared-slice-read-if1
     wrapping-add-u8-requires
