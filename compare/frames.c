@@ -153,6 +153,9 @@ int frames_judge(void)
         case 'C':
             judge_recheck(&stand);
             break;
+        case 'X':
+            judged(&stand, "what was lent (0 0 is as it must be)", 0, 0, 1, 0);
+            break;
         default:
             broken("a frame of no known letter");
         }

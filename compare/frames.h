@@ -9,6 +9,7 @@
      R number2 place4 length4 bytes   the run's answer, and the report's bytes
      P len4 bytes          another report
      C number2 place4      what the recheck said of the report that came last, by R or by P
+     X                     the test program saw that a table or the room did not end as it must: always wrong
    Rests on answers.h and damage.h. */
 #ifndef FRAMES_H
 #define FRAMES_H

@@ -1,0 +1,57 @@
+-- `framed::recheck_at` is safe: the part of the table that is lent was tested to lie within it.
+-- Assumes nothing.
+use borrow.Author.Needs.{needs}
+use Rattle.framed.proofs.recheck_at.Statement.{statement}
+use Rattle.framed.proofs.recheck_at.Tie as tie
+use mathlib.Core.Path.{sym}
+use native.Mathlib.Omega.{arith}
+use lib.Seq.{length-take-le}
+
+soil-table-requires : tie.Need-soil-table-requires
+soil-table-requires c κs = search needs
+
+slice-relend-prefix-recheck-report : tie.Need-slice-relend-prefix-recheck-report
+slice-relend-prefix-recheck-report c = search needs
+
+slice-aggregate-recheck-report : tie.Need-slice-aggregate-recheck-report
+slice-aggregate-recheck-report c = sym (length-take-le _ _ (omega arith))
+
+recheck-report-requires : tie.Need-recheck-report-requires
+recheck-report-requires c κs = search needs
+
+zeros-after-requires : tie.Need-zeros-after-requires
+zeros-after-requires c κs = search needs
+
+kept-table-requires : tie.Need-kept-table-requires
+kept-table-requires c κs = search needs
+
+tell-requires : tie.Need-tell-requires
+tell-requires c κs = search needs
+
+put-answer-requires : tie.Need-put-answer-requires
+put-answer-requires c κs = search needs
+
+same-length : tie.Need-same-length
+same-length c = search needs
+
+returns : tie.Need-returns
+returns c = search needs
+
+returns-2 : tie.Need-returns-2
+returns-2 c = search needs
+
+pub recheck-at-spec : {M : Type 1} → statement M
+recheck-at-spec =
+    tie.close
+    (tie.spec
+    soil-table-requires
+    slice-relend-prefix-recheck-report
+    slice-aggregate-recheck-report
+    recheck-report-requires
+    zeros-after-requires
+    kept-table-requires
+    tell-requires
+    put-answer-requires
+    same-length
+    returns
+    returns-2)

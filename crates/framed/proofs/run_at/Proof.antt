@@ -1,0 +1,69 @@
+-- `framed::run_at` is safe: the part of the table that is lent was tested to lie within it.
+-- Assumes nothing.
+use borrow.Author.Needs.{needs}
+use Rattle.framed.proofs.run_at.Statement.{statement}
+use Rattle.framed.proofs.run_at.Tie as tie
+use mathlib.Core.Path.{sym}
+use native.Mathlib.Omega.{arith}
+use lib.Seq.{length-take-le}
+
+soil-table-requires : tie.Need-soil-table-requires
+soil-table-requires c κs = search needs
+
+slice-relend-prefix-run-job : tie.Need-slice-relend-prefix-run-job
+slice-relend-prefix-run-job c = search needs
+
+slice-aggregate-run-job : tie.Need-slice-aggregate-run-job
+slice-aggregate-run-job c = sym (length-take-le _ _ (omega arith))
+
+run-job-requires : tie.Need-run-job-requires
+run-job-requires c κs = search needs
+
+zeros-after-requires : tie.Need-zeros-after-requires
+zeros-after-requires c κs = search needs
+
+kept-table-requires : tie.Need-kept-table-requires
+kept-table-requires c κs = search needs
+
+tell-requires : tie.Need-tell-requires
+tell-requires c κs = search needs
+
+run-job-requires-2 : tie.Need-run-job-requires-2
+run-job-requires-2 c κs = search needs
+
+same-length : tie.Need-same-length
+same-length c = search needs
+
+same-length-2 : tie.Need-same-length-2
+same-length-2 c = search needs
+
+returns : tie.Need-returns
+returns c = search needs
+
+same-length-3 : tie.Need-same-length-3
+same-length-3 c = search needs
+
+same-length-4 : tie.Need-same-length-4
+same-length-4 c = search needs
+
+returns-2 : tie.Need-returns-2
+returns-2 c = search needs
+
+pub run-at-spec : {M : Type 1} → statement M
+run-at-spec =
+    tie.close
+    (tie.spec
+    soil-table-requires
+    slice-relend-prefix-run-job
+    slice-aggregate-run-job
+    run-job-requires
+    zeros-after-requires
+    kept-table-requires
+    tell-requires
+    run-job-requires-2
+    same-length
+    same-length-2
+    returns
+    same-length-3
+    same-length-4
+    returns-2)
