@@ -13,6 +13,7 @@ use Rattle.meaning.specs.Reasons.{Reason}
 use Rattle.meaning.specs.Joins.{Join, numbersOf, keep, used, all}
 use Rattle.meaning.specs.Trim.{Trimmed}
 use Rattle.meaning.specs.Walk.{Walked}
+use Rattle.meaning.specs.Needed.{tags}
 use Rattle.meaning.proofs.Log.{linked-follows}
 use Rattle.meaning.proofs.Reference.{Small}
 use Rattle.meaning.proofs.Exact.{reason-of, reason-same}
@@ -108,7 +109,7 @@ module _ {N len n s t b : ℕ} {w : List ℕ} (J : Joining N len n s t b w) wher
       equal = rw (kept-leader (U .kept) (suc b) s, kept-leader (U .kept) (suc b) t) (J .met .joined (omega (arith, few, J .join)));
     }
 
-    module _ {w₂ : List ℕ} (X : Traced w₁ w₂ (suc b) s t) where
+    module _ {w₂ : List ℕ} (X : Traced w₁ w₂ (suc b) s t (tags s t)) where
       frame₂ : Within 17003 31096 w w₂
       frame₂ = within-trans frame₁ (wide (omega arith) (omega arith) (X .kept))
 
