@@ -24,9 +24,9 @@ use Rattle.meaning.proofs.Exact.{Settled, settled-classes, idle-iff}
 use Rattle.table.specs.Map.{parentOf, ageOf, whenOf, listOf, labelOf, nextOf, headOf, gather, joinAt, recAt, recordsIn, listIn, Loaded, Within}
 use Rattle.table.proofs.Frame.{seen-within, within-trans, within-wider, length-gather, gather-in, in-gather}
 use Rattle.closure.specs.Past.{ageAfter, leaderAfter}
-use Rattle.closure.specs.Closing.{Closing, Listed, Entailing}
+use Rattle.closure.specs.Closing.{Closing, Listed, Entailing, Saved, Holding}
 use Rattle.closure.specs.declared.Task.{Task}
-use Rattle.closure.specs.State.{Logged, State, Stepping, Stepped, Rested, Fresh, Begun, whole, Between, Admitted, eqnOf, keyOf, resOf}
+use Rattle.closure.specs.State.{Logged, State, Stepping, Stepped, Rested, Fresh, Preserved, Restored, Begun, whole, Between, Admitted, eqnOf, keyOf, resOf}
 use Rattle.closure.proofs.Chain.{chains-none, filled-none}
 use Rattle.closure.proofs.Rows.{valid-closed}
 use Rattle.closure.proofs.Views.{loaded-same, records-same, listed-same}
@@ -205,25 +205,62 @@ entails-start {N} {len} {n} {w} {w′} h f = record {
   log = λ y. absurd y;
 }
 
-pub entails-done : {N len n s t : ℕ} {w w′ w″ : List ℕ} {j : ℕ} {a b : ℕ} → Fresh w w′ → Rested (apart N len n) w′ 0 w″ j → a ≡ labelOf w″ s → b ≡ labelOf w″ t → Entailing N len n s t w w″ (eqb a b)
-entails-done {N} {len} {n} {s} {t} {w} {w′} {w″} {j} {a} {b} f r ea eb = record {
-  kept = frame;
-  exact = rw (← records-same wide len, ← lists) (there, back);
+pub resume-start : {N len n j : ℕ} {w w′ : List ℕ} → Listed N len n w → Saved N len (λ k. List·Memᴰ k (listIn n w)) w j → Restored w w′ → State (apart N len n) w′ j
+resume-start {N} {len} {n} {j} {w} {w′} h v r = record {
+  listed = listed-same wide list h;
+  labels = rw (r .labels) (v .labels);
+  sound = λ x. rw (records-same wide len, list, r .labels) (v .sound x);
+  total = rw (r .labels) (v .total);
+  log = λ y. absurd y;
 }
   where
-    frame : Within 21003 30096 w w″
-    frame = within-trans (within-wider 21003 30096 (omega arith) (omega arith) (f .frame)) (r .kept .frame)
+    wide : Within 12003 30096 w w′
+    wide = within-wider 12003 30096 (omega arith) (omega arith) (r .frame)
 
-    wide : Within 12003 30096 w w″
-    wide = within-wider 12003 30096 (omega arith) (omega arith) frame
+    list : listOf w′ ≡ listOf w
+    list = seen-within 17003 4000 (λ x. 0) (r .frame) (inl (omega arith))
 
-    lists : listIn n w″ ≡ listIn n w
-    lists = ap (λ (g : ℕ → ℕ). gather g n) (seen-within 17003 4000 (λ x. 0) frame (inl (omega arith)))
+-- Labels that are sound and closed under the list's records decide what follows from them.
+module _ {N len n j j′ : ℕ} {w w′ w″ : List ℕ} (f : Within 21003 22003 w w′) (r : Rested (apart N len n) w′ j w″ j′) where
+  pub rested-frame : Within 21003 30096 w w″
+  rested-frame = within-trans (within-wider 21003 30096 (omega arith) (omega arith) f) (r .kept .frame)
 
-    there : eqb a b ≡ true → Follows (Only (recordsIn len w″) (listIn n w″)) s t
-    there e = let q : labelOf w″ s ≡ labelOf w″ t = sym ea ∙ eqb-true a b e ∙ eb in
-        let z : Follows (Only (recordsIn len w″) (listIn n w″)) (labelOf w″ s) t = rw q (flip (r .state .sound t)) in
-        chain (r .state .sound s) z
+  wide : Within 12003 30096 w w″
+  wide = within-wider 12003 30096 (omega arith) (omega arith) rested-frame
 
-    back : Follows (Only (recordsIn len w″) (listIn n w″)) s t → eqb a b ≡ true
-    back h = eq-eqb a b (ea ∙ complete (valid-closed (r .state .listed) (r .valid)) h ∙ sym eb)
+  lists : listIn n w″ ≡ listIn n w
+  lists = ap (λ (g : ℕ → ℕ). gather g n) (seen-within 17003 4000 (λ x. 0) rested-frame (inl (omega arith)))
+
+  pub rested-sound : (x : ℕ) → Follows (Only (recordsIn len w) (listIn n w)) x (labelOf w″ x)
+  rested-sound x = rw (← records-same wide len, ← lists) (r .state .sound x)
+
+  pub rested-exact : (x y : ℕ) → (labelOf w″ x ≡ labelOf w″ y) ↔ Follows (Only (recordsIn len w) (listIn n w)) x y
+  rested-exact x y = rw (← records-same wide len, ← lists) (there, complete (valid-closed (r .state .listed) (r .valid)))
+    where
+      there : labelOf w″ x ≡ labelOf w″ y → Follows (Only (recordsIn len w″) (listIn n w″)) x y
+      there q = let z : Follows (Only (recordsIn len w″) (listIn n w″)) (labelOf w″ x) y = rw q (flip (r .state .sound y)) in chain (r .state .sound x) z
+
+  pub entails-done : {s t : ℕ} {a : Bool} → a ≡ eqb (labelOf w″ s) (labelOf w″ t) → Entailing N len n s t w w″ a
+  entails-done {s} {t} e = record {
+    kept = rested-frame;
+    exact = rw e (λ q. rested-exact s t .0 (eqb-true _ _ q), λ h. eq-eqb _ _ (rested-exact s t .1 h));
+  }
+
+  pub hold-done : {w‴ : List ℕ} {s t : ℕ} {a : Bool} → Preserved w″ w‴ → a ≡ eqb (labelOf w‴ s) (labelOf w‴ t) → Holding N len n s t w w‴ j′ a
+  hold-done {w‴} {s} {t} p e = record {
+    kept = within-trans (within-wider 21003 32096 (omega arith) (omega arith) rested-frame) (within-wider 21003 32096 (omega arith) (omega arith) (p .frame));
+    marks = seen-within 30096 1000 (λ x. 0) (p .frame) (inl (omega arith)) ∙ seen-within 30096 1000 (λ x. 0) rested-frame (inr (omega arith));
+    saved = record {
+      labels = rw (p .saved) (r .state .labels);
+      sound = λ x. rw (records, p .saved) (rested-sound x);
+      total = rw (p .saved) (r .state .total);
+    };
+    exact = rw (e, label) (λ q. rested-exact s t .0 (eqb-true _ _ q), λ h. eq-eqb _ _ (rested-exact s t .1 h));
+    settled = rw (p .saved) rested-exact;
+  }
+    where
+      label : labelOf w‴ ≡ labelOf w″
+      label = seen-within 21003 1000 (λ x. x) (p .frame) (inl (omega arith))
+
+      records : recordsIn len w‴ ≡ recordsIn len w
+      records = rw (seen-within 0 4001 (λ x. 0) (p .frame) (inl (omega arith)), seen-within 4001 4001 (λ x. 0) (p .frame) (inl (omega arith)), seen-within 8002 4001 (λ x. 0) (p .frame) (inl (omega arith))) (records-same wide len)

@@ -12,11 +12,11 @@ use lib.ListN.{length, take, drop, getD, length-append, length-drop, length-map,
 use lib.Seq.{getD-take, getD-drop, length-take-le, drop-at, drop-drop}
 use Rattle.meaning.specs.Labels.{into}
 use Rattle.meaning.proofs.Relabel.{into-miss, getD-any}
-use Rattle.table.specs.Map.{leftOf, rightOf, resultOf, parentOf, ageOf, firstOf, secondOf, whenOf, listOf, labelOf, nextOf, headOf, joinAt, recordsIn, Loaded, Within}
+use Rattle.table.specs.Map.{leftOf, rightOf, resultOf, parentOf, ageOf, firstOf, secondOf, whenOf, listOf, labelOf, savedOf, nextOf, headOf, joinAt, recordsIn, Loaded, Within}
 use Rattle.table.proofs.Frame.{seen-at, seen-past, seen-within, within-trans, within-wider}
 use Rattle.closure.specs.Closing.{Listed}
 use Rattle.closure.specs.declared.Task.{Task}
-use Rattle.closure.specs.State.{State, Fills, CountsUp, Relabelled, Fresh, Cleared, Unlinked, Enlisted, Begun, Kept, eqnOf, keyOf, resOf}
+use Rattle.closure.specs.State.{State, Fills, CountsUp, Raised, Lowered, Relabelled, Fresh, Preserved, Restored, Cleared, Unlinked, Enlisted, Begun, Kept, eqnOf, keyOf, resOf}
 
 -- A part that was lent comes back as the list v.
 module _ (at n : ℕ) (w v : List ℕ) (fits : at + n ≤ length w) (size : length v ≡ n) where
@@ -105,6 +105,59 @@ module _ (w w′ v : List ℕ) (long : 32768 ≤ length w) where
 
   pub enlisted : length v ≡ length (take 4000 (drop 17003 w)) → w′ ≡ take 17003 w ++ (v ++ drop 4000 (drop 17003 w)) → CountsUp v 1 → Enlisted w w′
   enlisted s e h = record { frame = lent-within 17003 4000 w w′ v (omega arith) s e; listed = λ j l. seen-at 17003 4000 (λ x. 0) w′ j l ∙ lent-at 17003 4000 w w′ v (omega arith) s e (λ i. 1 + i) h j l ∙ omega arith }
+
+-- The labels and what is saved of them stand in one part, 10,093 places apart.
+module _ (w w′ v : List ℕ) (long : 32768 ≤ length w) (s : length v ≡ length (take 11093 (drop 21003 w))) (e : w′ ≡ take 21003 w ++ (v ++ drop 11093 (drop 21003 w))) where
+  part : Within 21003 32096 w w′
+  part = lent-within 21003 11093 w w′ v (omega arith) s e
+
+  new : (x : ℕ) → x < 11093 → getD w′ (21003 + x) 0 ≡ getD v x 0
+  new x l = rw e (part-at 21003 11093 w v (omega arith) (part-length 21003 11093 w w′ v (omega arith) s e) x l)
+
+  old : (x : ℕ) → x < 11093 → getD (take 11093 (drop 21003 w)) x 0 ≡ getD w (21003 + x) 0
+  old x l = getD-take 11093 (drop 21003 w) x 0 l ∙ getD-drop 21003 w x 0
+
+  whole : length (take 11093 (drop 21003 w)) ≡ 11093
+  whole = length-take-le 11093 (drop 21003 w) (rw length-drop (omega arith))
+
+  -- A number of the part that is as it was, at the place i of the table.
+  still : (i : ℕ) → 21003 ≤ i → i < 32096 → getD v (i - 21003) 0 ≡ getD (take 11093 (drop 21003 w)) (i - 21003) 0 → getD w′ i 0 ≡ getD w i 0
+  still i l k q = let c : 21003 + (i - 21003) ≡ i = omega arith in
+      ap (λ (n : ℕ). getD w′ n 0) (sym c) ∙ new (i - 21003) (omega arith) ∙ q ∙ old (i - 21003) (omega arith) ∙ ap (λ (n : ℕ). getD w n 0) c
+
+  pub preserved : Raised (take 11093 (drop 21003 w)) v 10093 → Preserved w w′
+  preserved r = record { frame = record { size = part .size; same = λ i. same i }; saved = fun-ext (λ x. go x (decLt x 1000)) }
+    where
+      inside : (i : ℕ) → i < 31096 → Dec (i < 21003) → getD w′ i 0 ≡ getD w i 0
+      inside i l (yes k) = part .same i (inl k)
+      inside i l (no k) = still i (omega arith) (omega arith) (r .under (i - 21003) (omega arith))
+
+      same : (i : ℕ) → (i < 31096) ⊎ (32096 ≤ i) → getD w′ i 0 ≡ getD w i 0
+      same i (inl l) = inside i l (decLt i 21003)
+      same i (inr l) = part .same i (inr l)
+
+      go : (x : ℕ) → Dec (x < 1000) → savedOf w′ x ≡ labelOf w x
+      go x (yes l) =
+          let c : 31096 + x ≡ 21003 + (10093 + x) = omega arith in
+          seen-at 31096 1000 (λ x. x) w′ x l ∙ ap (λ (n : ℕ). getD w′ n 0) c ∙ new (10093 + x) (omega arith) ∙ r .above x (rw whole (omega arith)) ∙ old x (omega arith) ∙ sym (seen-at 21003 1000 (λ x. x) w x l)
+      go x (no l) = seen-past 31096 1000 (λ x. x) w′ x (omega arith) ∙ sym (seen-past 21003 1000 (λ x. x) w x (omega arith))
+
+  pub restored : Lowered (take 11093 (drop 21003 w)) v 10093 → Restored w w′
+  restored r = record { frame = record { size = part .size; same = λ i. same i }; labels = fun-ext (λ x. go x (decLt x 1000)) }
+    where
+      behind : (i : ℕ) → 22003 ≤ i → Dec (i < 32096) → getD w′ i 0 ≡ getD w i 0
+      behind i l (yes k) = still i (omega arith) k (r .above (i - 21003) (rw whole (omega arith)))
+      behind i l (no k) = part .same i (inr (omega arith))
+
+      same : (i : ℕ) → (i < 21003) ⊎ (22003 ≤ i) → getD w′ i 0 ≡ getD w i 0
+      same i (inl l) = part .same i (inl l)
+      same i (inr l) = behind i l (decLt i 32096)
+
+      go : (x : ℕ) → Dec (x < 1000) → labelOf w′ x ≡ savedOf w x
+      go x (yes l) =
+          let c : 21003 + (10093 + x) ≡ 31096 + x = omega arith in
+          seen-at 21003 1000 (λ x. x) w′ x l ∙ new x (omega arith) ∙ r .under x (rw whole (omega arith)) ∙ old (10093 + x) (omega arith) ∙ ap (λ (n : ℕ). getD w n 0) c ∙ sym (seen-at 31096 1000 (λ x. x) w x l)
+      go x (no l) = seen-past 21003 1000 (λ x. x) w′ x (omega arith) ∙ sym (seen-past 31096 1000 (λ x. x) w x (omega arith))
 
 pub begun : {w a b c d : List ℕ} → Unlinked w a → Enlisted a b → Fresh b c → Cleared c d → Begun w d
 begun u l f z = record {

@@ -4,11 +4,12 @@ use Prim.Native.Nat.{ℕ, suc, _+_, _-_, _≤_, _<_}
 use mathlib.Core.Path.{_≡_}
 use mathlib.Core.Logic.{_↔_}
 use mathlib.Core.Bool.{Bool, true, false}
-use mathlib.Core.List.{List}
+use mathlib.Core.List.{List, List·Memᴰ}
 use lib.ListN.{length}
-use Rattle.meaning.specs.Following.{Rec, Follows, UpTo, Only}
+use Rattle.meaning.specs.Following.{Rec, Follows, Those, UpTo, Only}
+use Rattle.meaning.specs.Labels.{Labels, classes}
 use Rattle.meaning.specs.Totals.{Classes, Idles}
-use Rattle.table.specs.Map.{listOf, recordsIn, listIn, Loaded, Within}
+use Rattle.table.specs.Map.{leftOf, rightOf, listOf, markOf, savedOf, recordsIn, listIn, Loaded, Within}
 use Rattle.closure.specs.Past.{Past}
 
 -- From w to w′ the records 1 to len of N tags were closed: what was written lies behind the columns and before the marks, the joins are
@@ -29,3 +30,23 @@ pub record Listed (N len n : ℕ) (w : List ℕ) : Type 0 where
 pub record Entailing (N len n s t : ℕ) (w w′ : List ℕ) (answer : Bool) : Type 0 where
   pub kept : Within 21003 30096 w w′
   pub exact : (answer ≡ true) ↔ Follows (Only (recordsIn len w) (listIn n w)) s t
+
+-- The labels that are saved follow from the records that P picks of 1 to len on N tags, and it took so many joins to make them.
+pub record Saved (N len : ℕ) (P : ℕ → Type 0) (w : List ℕ) (joins : ℕ) : Type 0 where
+  pub labels : Labels (savedOf w)
+  pub sound : (x : ℕ) → Follows (Those (recordsIn len w) P) x (savedOf w x)
+  pub total : joins + classes (savedOf w) N ≡ N
+
+-- Whether s and t are equal by exactly the records of the list; and the labels are saved, equal exactly where equality follows from the list.
+pub record Holding (N len n s t : ℕ) (w w′ : List ℕ) (joins : ℕ) (answer : Bool) : Type 0 where
+  pub kept : Within 21003 32096 w w′
+  pub marks : markOf w′ ≡ markOf w
+  pub saved : Saved N len (λ k. List·Memᴰ k (listIn n w)) w′ joins
+  pub exact : (answer ≡ true) ↔ Follows (Only (recordsIn len w) (listIn n w)) s t
+  pub settled : (x y : ℕ) → (savedOf w′ x ≡ savedOf w′ y) ↔ Follows (Only (recordsIn len w) (listIn n w)) x y
+
+-- Where the answer is true, no two of the records that the list's first n numbers name have the same argument labels, of those that are saved.
+pub record Telling (n : ℕ) (w w′ : List ℕ) (answer : Bool) : Type 0 where
+  pub kept : Within 21003 30096 w w′
+  pub apart : answer ≡ true → (i j : ℕ) → i < j → j < n → savedOf w (leftOf w (listOf w i)) ≡ savedOf w (leftOf w (listOf w j))
+      → savedOf w (rightOf w (listOf w i)) ≡ savedOf w (rightOf w (listOf w j)) → ⊥

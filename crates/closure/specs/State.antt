@@ -12,7 +12,7 @@ use Rattle.meaning.specs.Joins.{Join, Grounds, Justified, all, numbersOf, used,
 use Rattle.meaning.specs.Labels.{Labels, into, classes}
 use Rattle.meaning.specs.Forest.{root, History}
 use Rattle.meaning.proofs.Exact.{Settled}
-use Rattle.table.specs.Map.{leftOf, rightOf, resultOf, parentOf, ageOf, whenOf, listOf, labelOf, nextOf, headOf, joinBy, joinAt, recordsIn, listIn, Within}
+use Rattle.table.specs.Map.{leftOf, rightOf, resultOf, parentOf, ageOf, whenOf, listOf, labelOf, savedOf, nextOf, headOf, joinBy, joinAt, recordsIn, listIn, Within}
 use Rattle.closure.specs.Chain.{look, Chains, Filled}
 use Rattle.closure.specs.Closing.{Listed}
 use Rattle.closure.specs.declared.Task.{Task}
@@ -118,7 +118,7 @@ pub record Unifying (t : Task) (w : List ℕ) (p i n : ℕ) : Type 0 where
   pub found : p ≡ look (keyOf w) (headOf w) (nextOf w) (keyOf w i)
   pub hit : 0 < p
 
--- Parts that were written: the label hi became lo; each tag is its own label; no chains; no links; records 1, 2, 3, .. listed; and the five stores that
+-- Parts that were written: the label hi became lo; each tag is its own label; the labels are saved, or those that are come back; no chains; no links; records 1, 2, 3, .. listed; and the five stores that
 -- keep a join.
 pub record Relabelled (w w′ : List ℕ) (lo hi : ℕ) : Type 0 where
   pub frame : Within 21003 22003 w w′
@@ -127,6 +127,14 @@ pub record Relabelled (w w′ : List ℕ) (lo hi : ℕ) : Type 0 where
 pub record Fresh (w w′ : List ℕ) : Type 0 where
   pub frame : Within 21003 22003 w w′
   pub labels : (x : ℕ) → labelOf w′ x ≡ x
+
+pub record Preserved (w w′ : List ℕ) : Type 0 where
+  pub frame : Within 31096 32096 w w′
+  pub saved : savedOf w′ ≡ labelOf w
+
+pub record Restored (w w′ : List ℕ) : Type 0 where
+  pub frame : Within 21003 22003 w w′
+  pub labels : labelOf w′ ≡ savedOf w
 
 pub record Cleared (w w′ : List ℕ) : Type 0 where
   pub frame : Within 22003 30096 w w′
@@ -162,6 +170,23 @@ Fills l v = (i : ℕ) → i < length l → getD l i 0 ≡ v
 
 abbrev pub CountsUp : List ℕ → ℕ → Type 0
 CountsUp l from = (i : ℕ) → i < length l → getD l i 0 ≡ from + i
+
+-- The numbers before the last `gap` are written `gap` places behind as well; and those `gap` places behind come to the front.
+pub record Raised (l l′ : List ℕ) (gap : ℕ) : Type 0 where
+  pub size : length l′ ≡ length l
+  pub under : (i : ℕ) → i < gap → getD l′ i 0 ≡ getD l i 0
+  pub above : (i : ℕ) → gap + i < length l → getD l′ (gap + i) 0 ≡ getD l i 0
+
+pub record Lowered (l l′ : List ℕ) (gap : ℕ) : Type 0 where
+  pub size : length l′ ≡ length l
+  pub under : (i : ℕ) → gap + i < length l → getD l′ i 0 ≡ getD l (gap + i) 0
+  pub above : (i : ℕ) → length l ≤ gap + i → getD l′ i 0 ≡ getD l i 0
+
+-- The first i places of the list stand in the chains, each with a key that no other of them has.
+pub record Singled (t : Task) (w : List ℕ) (i : ℕ) : Type 0 where
+  pub chains : Chains (λ j. false) (headOf w) (nextOf w) i
+  pub filled : Filled (λ j. false) (keyOf w) (λ j. 0) (headOf w) (nextOf w) i
+  pub apart : (j k : ℕ) → j < k → k < i → keyOf w j ≢ keyOf w k
 
 -- The closure of records 1, 2, 3, .. between two of them: the first i are closed, by n joins.
 abbrev pub whole : ℕ → ℕ → ℕ → Task

@@ -4,17 +4,18 @@
 // One engine closes the records whose numbers stand in the list, place after place, and again until a pass joins nothing. While it runs, a tag's
 // label is the smallest tag of its class; a join relabels the larger label to the smaller. Applications are found by their arguments' labels in a
 // chained hash table whose links only fall. `close` closes records 1, 2, 3, .. one at a time and keeps each join; `entails` closes
-// a given list and keeps nothing.
+// a given list and keeps nothing. `hold` does so too and saves the labels, and `resume` begins with those, for a list that is a little longer.
 ghost use mathlib.Core.Path.{_≡_};
-ghost use mathlib.Core.List.{map};
+ghost use mathlib.Core.List.{map, List·Memᴰ};
 ghost use Prim.Native.Nat.{ℕ, _+_, _*_, _≤_, _<_};
+ghost use lib.Dec.{eqb};
 ghost use lib.ListN.{length, getD, set};
 ghost use mathlib.Core.Bool.{true, false};
 ghost use Rattle.meaning.specs.Labels.{into};
-ghost use Rattle.table.specs.Map.{nextOf, headOf, Loaded};
+ghost use Rattle.table.specs.Map.{labelOf, nextOf, headOf, listIn, Loaded, Within};
 ghost use Rattle.closure.specs.Chain.{seekTo, hits};
-ghost use Rattle.closure.specs.State.{Fills, CountsUp, Relabelled, Fresh, Cleared, Unlinked, Enlisted, noted, keyIn, keyOf, eqnOf, Readable, Seeking, Joining, Joined, Stepping, Stepped, Unifying, State, Passed, Rested, Between, Admitted, Begun};
-ghost use Rattle.closure.specs.Closing.{Listed, Closing, Entailing};
+ghost use Rattle.closure.specs.State.{Fills, CountsUp, Raised, Lowered, Relabelled, Fresh, Preserved, Restored, Cleared, Unlinked, Enlisted, noted, keyIn, keyOf, eqnOf, Readable, Seeking, Joining, Joined, Stepping, Stepped, Unifying, State, Passed, Rested, Between, Admitted, Begun, Singled};
+ghost use Rattle.closure.specs.Closing.{Listed, Closing, Entailing, Saved, Holding, Telling};
 use meaning::RecordNo;
 use meaning::Tag;
 use table::AGE;
@@ -24,11 +25,19 @@ use table::LEADS;
 use table::LIST;
 use table::MARKS;
 use table::NEXT;
+use table::SAVED;
+use table::SPARE;
 
 // What a run of the closure made: its joins, and the records that made none.
 pub struct Totals {
     pub joins: usize,
     pub idle: usize,
+}
+
+// What the closure of a list told: how many joins it took, and whether two tags are equal by it.
+pub struct Held {
+    pub joins: usize,
+    pub same: bool,
 }
 
 // What is closed: the list's first `places` records, of those 1 to `len` that the table holds of `size` tags. Joins are kept if `keep` says so, as
@@ -85,6 +94,32 @@ fn relabel(part: &mut [u16], hi: u16, lo: u16)
     }
 }
 
+// The numbers before the last `gap` are written `gap` places behind as well.
+fn raise(part: &mut [u16], gap: usize)
+    requires { ⌜ (gap ≤ length (now part)) × (length (now part) ≤ 2 * gap) × (gap ≤ 32768) ⌝ }
+    ensures { λ _. ⌜ Raised (now (part .entry)) (now (part .exit)) gap ⌝ }
+{
+    let mut i = 0;
+    while i + gap < part.len() {
+        let v = part[i];
+        part[i + gap] = v;
+        i += 1;
+    }
+}
+
+// The numbers `gap` places behind come to the front.
+fn lower(part: &mut [u16], gap: usize)
+    requires { ⌜ (gap ≤ length (now part)) × (length (now part) ≤ 2 * gap) × (gap ≤ 32768) ⌝ }
+    ensures { λ _. ⌜ Lowered (now (part .entry)) (now (part .exit)) gap ⌝ }
+{
+    let mut i = 0;
+    while i + gap < part.len() {
+        let v = part[i + gap];
+        part[i] = v;
+        i += 1;
+    }
+}
+
 // The label hi becomes lo for every tag.
 fn merge(work: &mut [u16], lo: Tag, hi: Tag)
     requires { ⌜ (32768 ≤ length (now work)) × (hi .0 < 1000) ⌝ }
@@ -116,6 +151,22 @@ fn fresh(work: &mut [u16])
     ensures { λ _. ⌜ Fresh (now (work .entry)) (now (work .exit)) ⌝ }
 {
     count_up(&mut work[LABEL..NEXT], 0);
+}
+
+// The labels are saved.
+fn save(work: &mut [u16])
+    requires { ⌜ 32768 ≤ length (now work) ⌝ }
+    ensures { λ _. ⌜ Preserved (now (work .entry)) (now (work .exit)) ⌝ }
+{
+    raise(&mut work[LABEL..SPARE], SAVED - LABEL);
+}
+
+// The labels are those that were saved.
+fn restore(work: &mut [u16])
+    requires { ⌜ 32768 ≤ length (now work) ⌝ }
+    ensures { λ _. ⌜ Restored (now (work .entry)) (now (work .exit)) ⌝ }
+{
+    lower(&mut work[LABEL..SPARE], SAVED - LABEL);
 }
 
 // No place stands in a chain.
@@ -368,6 +419,16 @@ pub fn close(work: &mut [u16], size: usize, len: usize) -> Totals
     }
 }
 
+// Whether two tags have one label.
+fn level(work: &[u16], s: Tag, t: Tag) -> bool
+    requires { ⌜ (32768 ≤ length (now work)) × (s .0 < 1000) × (t .0 < 1000) ⌝ }
+    ensures { λ r. ⌜ r ≡ eqb (labelOf (now (work .entry)) (s .0)) (labelOf (now (work .entry)) (t .0)) ⌝ }
+{
+    let a = table::label(work, s);
+    let b = table::label(work, t);
+    a.0 == b.0
+}
+
 // Whether s and t are equal by exactly the records that the list's first n numbers name.
 pub fn entails(work: &mut [u16], size: usize, len: usize, n: usize, s: Tag, t: Tag) -> bool
     requires { ⌜ Listed size len n (now work) × (s .0 < size) × (t .0 < size) ⌝ }
@@ -381,7 +442,90 @@ pub fn entails(work: &mut [u16], size: usize, len: usize, n: usize, s: Tag, t: T
         keep: false,
     };
     settle(work, task, 0);
-    let a = table::label(work, s);
-    let b = table::label(work, t);
-    a.0 == b.0
+    level(work, s, t)
+}
+
+// The same, and the labels are saved.
+pub fn hold(work: &mut [u16], size: usize, len: usize, n: usize, s: Tag, t: Tag) -> Held
+    requires { ⌜ Listed size len n (now work) × (s .0 < size) × (t .0 < size) ⌝ }
+    ensures { λ r. ⌜ Holding size len n (s .0) (t .0) (now (work .entry)) (now (work .exit)) (r .joins) (r .same) ⌝ }
+{
+    fresh(work);
+    let task = Task {
+        size: size,
+        len: len,
+        places: n,
+        keep: false,
+    };
+    let joins = settle(work, task, 0);
+    save(work);
+    Held {
+        joins: joins,
+        same: level(work, s, t),
+    }
+}
+
+// Whether s and t are equal by exactly the records of the list, where the labels that are saved already follow from them.
+pub fn resume(
+    work: &mut [u16],
+    size: usize,
+    len: usize,
+    n: usize,
+    joins: usize,
+    s: Tag,
+    t: Tag,
+) -> bool
+    requires { ⌜ Listed size len n (now work) × Saved size len (λ k. List·Memᴰ k (listIn n (now work))) (now work) joins × (s .0 < size) × (t .0 < size) ⌝ }
+    ensures { λ r. ⌜ Entailing size len n (s .0) (t .0) (now (work .entry)) (now (work .exit)) r ⌝ }
+{
+    restore(work);
+    let task = Task {
+        size: size,
+        len: len,
+        places: n,
+        keep: false,
+    };
+    settle(work, task, joins);
+    level(work, s, t)
+}
+
+// Whether no place before i has the argument labels of place i, which goes into the table then.
+fn single(work: &mut [u16], task: Task, i: usize) -> bool
+    requires { ⌜ Listed (task .size) (task .len) (task .places) (now work) × Singled task (now work) i × (i < task .places) ⌝ }
+    ensures { λ r. ⌜ Within 22003 30096 (now (work .entry)) (now (work .exit)) × (r ≡ true → Singled task (now (work .exit)) (i + 1)) ⌝ }
+{
+    let r = table::listed(work, i);
+    let x = key(work, r);
+    let b = x % BUCKETS;
+    let from = table::head(work, b);
+    let p = seek(work, task, from, x);
+    if p != 0 {
+        return false;
+    }
+    insert(work, b, i);
+    true
+}
+
+// Whether the records that the list's first n numbers name have pairwise different argument labels, of those that are saved.
+pub fn distinct(work: &mut [u16], size: usize, len: usize, n: usize) -> bool
+    requires { ⌜ Listed size len n (now work) ⌝ }
+    ensures { λ r. ⌜ Telling n (now (work .entry)) (now (work .exit)) r ⌝ }
+{
+    restore(work);
+    clear(work);
+    let task = Task {
+        size: size,
+        len: len,
+        places: n,
+        keep: false,
+    };
+    let mut i = 0;
+    while i < n {
+        if single(work, task, i) {
+            i += 1;
+        } else {
+            return false;
+        }
+    }
+    true
 }

@@ -62,6 +62,10 @@ headOf w = seen 26003 4093 (λ x. 0) w
 abbrev pub markOf : List ℕ → ℕ → ℕ
 markOf w = seen 30096 1000 (λ x. 0) w
 
+-- By tag: a label that was saved.
+abbrev pub savedOf : List ℕ → ℕ → ℕ
+savedOf w = seen 31096 1000 (λ x. x) w
+
 -- The first n values of f, in order.
 abbrev pub gather : {A : Type 0} → (ℕ → A) → ℕ → List A
 gather f zero = []
