@@ -2,5 +2,6 @@ pub mod Meeting
 pub mod Tracing
 pub mod Listing
 pub mod Trimming
+pub mod Comparing
 pub mod Rising
 pub mod Explaining

@@ -4,6 +4,7 @@ ghost use Prim.Native.Nat.{ℕ, _≤_, _<_};
 ghost use Rattle.reasons.specs.Explaining.{Question, Explained, Joining, Reasoned};
 use meaning::Tag;
 
+pub mod comparing;
 pub mod listing;
 pub mod meeting;
 pub mod rising;
