@@ -6,3 +6,4 @@ pub mod Views
 pub mod Uniting
 pub mod Steps
 pub mod Moments
+pub mod Singles

@@ -21,15 +21,15 @@ use Rattle.meaning.proofs.Relabel.{start-classes}
 use Rattle.meaning.proofs.Short.{some-class}
 use Rattle.meaning.proofs.Forest.{root-stop, root-labels, history-start}
 use Rattle.meaning.proofs.Exact.{Settled, settled-classes, idle-iff}
-use Rattle.table.specs.Map.{parentOf, ageOf, whenOf, listOf, labelOf, nextOf, headOf, gather, joinAt, recAt, recordsIn, listIn, Loaded, Within}
+use Rattle.table.specs.Map.{parentOf, ageOf, whenOf, listOf, labelOf, savedOf, gather, joinAt, recAt, recordsIn, listIn, Loaded, Within}
 use Rattle.table.proofs.Frame.{seen-within, within-trans, within-wider, length-gather, gather-in, in-gather}
 use Rattle.closure.specs.Past.{ageAfter, leaderAfter}
 use Rattle.closure.specs.Closing.{Closing, Listed, Entailing, Saved, Holding}
 use Rattle.closure.specs.declared.Task.{Task}
-use Rattle.closure.specs.State.{Logged, State, Stepping, Stepped, Rested, Fresh, Preserved, Restored, Begun, whole, Between, Admitted, eqnOf, keyOf, resOf}
+use Rattle.closure.specs.State.{Logged, State, Stepping, Stepped, Rested, Fresh, Preserved, Restored, Begun, whole, apart, Between, Admitted, eqnOf, keyOf, resOf, nextIn, headIn}
 use Rattle.closure.proofs.Chain.{chains-none, filled-none}
 use Rattle.closure.proofs.Rows.{valid-closed}
-use Rattle.closure.proofs.Views.{loaded-same, records-same, listed-same}
+use Rattle.closure.proofs.Views.{few-room, loaded-same, records-same, listed-same}
 use Rattle.closure.proofs.Steps.{kept-trans}
 
 -- Each tag its own label: no class is joined.
@@ -43,6 +43,7 @@ pub between-start : {N len : ℕ} {w w′ : List ℕ} → Loaded N len w → Beg
 between-start {N} {len} {w} {w′} h b = record {
   state = record {
     listed = record { loaded = loaded-same (b .frame) h; short = omega arith; named = λ i l. absurd (omega arith) };
+    room = omega arith;
     labels = fresh-labels (fun-ext (b .labels));
     sound = λ x. rw (b .labels x) same;
     total = fresh-total N (fun-ext (b .labels));
@@ -56,8 +57,8 @@ between-start {N} {len} {w} {w′} h b = record {
       moments = λ k l. absurd (omega arith);
     };
   };
-  chains = chains-none (eqnOf w′) (headOf w′) (nextOf w′) (b .heads) (b .nexts);
-  valid = record { filled = filled-none (eqnOf w′) (keyOf w′) (resOf w′) (headOf w′) (nextOf w′); equal = λ j l. absurd (omega arith) };
+  chains = chains-none (eqnOf w′) (headIn false w′) (nextIn false w′) (b .heads) (b .nexts);
+  valid = record { filled = filled-none 4093 (eqnOf w′) (keyOf w′) (resOf w′) (headIn false w′) (nextIn false w′); equal = λ j l. absurd (omega arith) };
   listed = b .listed;
 }
   where
@@ -126,6 +127,7 @@ state-next {N} {len} {i} {w} {n} b low = record {
     short = omega (arith, b .state .listed .loaded .most);
     named = λ j l. let q = b .listed j (omega (arith, b .state .listed .loaded .most)) in (omega arith, omega arith);
   };
+  room = omega (arith, b .state .listed .loaded .most);
   labels = b .state .labels;
   sound = λ x. more-of (λ k m. Memᴰ·append-left (listOf w i ∷ []) m) (b .state .sound x);
   total = b .state .total;
@@ -193,26 +195,25 @@ close-done {N} {len} {w} {w′} f b c = let g = b .state .log tt in record {
 }
 
 -- A list on its own.
-abbrev pub apart : ℕ → ℕ → ℕ → Task
-apart N len n = record { size = N; len = len; places = n; keep = false }
-
-pub entails-start : {N len n : ℕ} {w w′ : List ℕ} → Listed N len n w → Fresh w w′ → State (apart N len n) w′ 0
-entails-start {N} {len} {n} {w} {w′} h f = record {
+pub entails-start : {N len n : ℕ} {w w′ : List ℕ} {t : Task} → t ≡ apart N len n (leb n 60) → Listed N len n w → Fresh w w′ → State t w′ 0
+entails-start {N} {len} {n} {w} {w′} e h f = rw e (record {
   listed = listed-same (within-wider 12003 30096 (omega arith) (omega arith) (f .frame)) (seen-within 17003 4000 (λ x. 0) (f .frame) (inl (omega arith))) h;
+  room = few-room n (h .short);
   labels = fresh-labels (fun-ext (f .labels));
   sound = λ x. rw (f .labels x) same;
   total = fresh-total N (fun-ext (f .labels));
   log = λ y. absurd y;
-}
+})
 
-pub resume-start : {N len n j : ℕ} {w w′ : List ℕ} → Listed N len n w → Saved N len (λ k. List·Memᴰ k (listIn n w)) w j → Restored w w′ → State (apart N len n) w′ j
-resume-start {N} {len} {n} {j} {w} {w′} h v r = record {
+pub resume-start : {N len n j : ℕ} {w w′ : List ℕ} {t : Task} → t ≡ apart N len n (leb n 60) → Listed N len n w → Saved N len (λ k. List·Memᴰ k (listIn n w)) w j → Restored w w′ → State t w′ j
+resume-start {N} {len} {n} {j} {w} {w′} e h v r = rw e (record {
   listed = listed-same wide list h;
+  room = few-room n (h .short);
   labels = rw (r .labels) (v .labels);
   sound = λ x. rw (records-same wide len, list, r .labels) (v .sound x);
   total = rw (r .labels) (v .total);
   log = λ y. absurd y;
-}
+})
   where
     wide : Within 12003 30096 w w′
     wide = within-wider 12003 30096 (omega arith) (omega arith) (r .frame)
@@ -221,7 +222,10 @@ resume-start {N} {len} {n} {j} {w} {w′} h v r = record {
     list = seen-within 17003 4000 (λ x. 0) (r .frame) (inl (omega arith))
 
 -- Labels that are sound and closed under the list's records decide what follows from them.
-module _ {N len n j j′ : ℕ} {w w′ w″ : List ℕ} (f : Within 21003 22003 w w′) (r : Rested (apart N len n) w′ j w″ j′) where
+module _ {N len n j j′ : ℕ} {w w′ w″ : List ℕ} {t : Task} {few : Bool} (e : t ≡ apart N len n few) (f : Within 21003 22003 w w′) (rested : Rested t w′ j w″ j′) where
+  r : Rested (apart N len n few) w′ j w″ j′
+  r = rw e at rested
+
   pub rested-frame : Within 21003 30096 w w″
   rested-frame = within-trans (within-wider 21003 30096 (omega arith) (omega arith) f) (r .kept .frame)
 
@@ -240,14 +244,14 @@ module _ {N len n j j′ : ℕ} {w w′ w″ : List ℕ} (f : Within 21003 22003
       there : labelOf w″ x ≡ labelOf w″ y → Follows (Only (recordsIn len w″) (listIn n w″)) x y
       there q = let z : Follows (Only (recordsIn len w″) (listIn n w″)) (labelOf w″ x) y = rw q (flip (r .state .sound y)) in chain (r .state .sound x) z
 
-  pub entails-done : {s t : ℕ} {a : Bool} → a ≡ eqb (labelOf w″ s) (labelOf w″ t) → Entailing N len n s t w w″ a
-  entails-done {s} {t} e = record {
+  pub entails-done : {x y : ℕ} {a : Bool} → a ≡ eqb (labelOf w″ x) (labelOf w″ y) → Entailing N len n x y w w″ a
+  entails-done {x} {y} q = record {
     kept = rested-frame;
-    exact = rw e (λ q. rested-exact s t .0 (eqb-true _ _ q), λ h. eq-eqb _ _ (rested-exact s t .1 h));
+    exact = rw q (λ c. rested-exact x y .0 (eqb-true _ _ c), λ h. eq-eqb _ _ (rested-exact x y .1 h));
   }
 
-  pub hold-done : {w‴ : List ℕ} {s t : ℕ} {a : Bool} → Preserved w″ w‴ → a ≡ eqb (labelOf w‴ s) (labelOf w‴ t) → Holding N len n s t w w‴ j′ a
-  hold-done {w‴} {s} {t} p e = record {
+  pub hold-done : {w‴ : List ℕ} {x y : ℕ} {a : Bool} → Preserved w″ w‴ → a ≡ eqb (labelOf w‴ x) (labelOf w‴ y) → Holding N len n x y w w‴ j′ a
+  hold-done {w‴} {x} {y} p q = record {
     kept = within-trans (within-wider 21003 32096 (omega arith) (omega arith) rested-frame) (within-wider 21003 32096 (omega arith) (omega arith) (p .frame));
     marks = seen-within 30096 1000 (λ x. 0) (p .frame) (inl (omega arith)) ∙ seen-within 30096 1000 (λ x. 0) rested-frame (inr (omega arith));
     saved = record {
@@ -255,7 +259,7 @@ module _ {N len n j j′ : ℕ} {w w′ w″ : List ℕ} (f : Within 21003 22003
       sound = λ x. rw (records, p .saved) (rested-sound x);
       total = rw (p .saved) (r .state .total);
     };
-    exact = rw (e, label) (λ q. rested-exact s t .0 (eqb-true _ _ q), λ h. eq-eqb _ _ (rested-exact s t .1 h));
+    exact = rw (q, label) (λ c. rested-exact x y .0 (eqb-true _ _ c), λ h. eq-eqb _ _ (rested-exact x y .1 h));
     settled = rw (p .saved) rested-exact;
   }
     where

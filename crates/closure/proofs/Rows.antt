@@ -9,11 +9,11 @@ use mathlib.Core.List.{List, List·Memᴰ}
 use Rattle.meaning.specs.Following.{Rec, eq, app, At, Only}
 use Rattle.meaning.proofs.Close.{Closed, closed-by}
 use Rattle.meaning.proofs.Reference.{Small}
-use Rattle.table.specs.Map.{leftOf, rightOf, resultOf, listOf, labelOf, nextOf, headOf, recAt, recordsIn, listIn}
+use Rattle.table.specs.Map.{leftOf, rightOf, resultOf, listOf, labelOf, recAt, recordsIn, listIn}
 use Rattle.table.proofs.Frame.{length-gather, getD-gather, gather-in, in-gather}
 use Rattle.closure.specs.Chain.{look}
 use Rattle.closure.specs.Closing.{Listed}
-use Rattle.closure.specs.State.{eqnOf, keyOf, resOf, Valid, Readable}
+use Rattle.closure.specs.State.{eqnOf, keyOf, resOf, width, nextIn, headIn, Valid, Readable}
 
 module _ (N : ℕ) where
   left-small : (b : Bool) (l r s : ℕ) → Small N (cond b (eq l r) (app l r s)) → l < N
@@ -82,11 +82,11 @@ app-parts : (b : Bool) (l r s x y z : ℕ) → cond b (eq l r) (app l r s) ≡ a
 app-parts true l r s x y z e = let z : _≡_ {A = ℕ} 0 1 = cc in absurd (omega arith)
 app-parts false l r s x y z e = ((refl, cc), (cc, cc))
 
-pub valid-closed : {N len n : ℕ} {w : List ℕ} → Listed N len n w → Valid w n → Closed (Only (recordsIn len w) (listIn n w)) (labelOf w)
-valid-closed {N} {len} {n} {w} h v = closed-by (labelOf w) own (λ a b i. equal a b i) (λ a b c i. agree a b c i)
+pub valid-closed : {N len n : ℕ} {few : Bool} {w : List ℕ} → Listed N len n w → Valid few w n → Closed (Only (recordsIn len w) (listIn n w)) (labelOf w)
+valid-closed {N} {len} {n} {few} {w} h v = closed-by (labelOf w) own (λ a b i. equal a b i) (λ a b c i. agree a b c i)
   where
     own : ℕ → ℕ → ℕ
-    own x y = resOf w (look (keyOf w) (headOf w) (nextOf w) (x * 65536 + y) - 1)
+    own x y = resOf w (look (width few) (keyOf w) (headIn few w) (nextIn few w) (x * 65536 + y) - 1)
 
     equal : (a b : ℕ) → Only (recordsIn len w) (listIn n w) (eq a b) → labelOf w a ≡ labelOf w b
     equal a b i =

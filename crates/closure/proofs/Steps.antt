@@ -13,14 +13,14 @@ use borrow.Author.Tests.{ne-eqb}
 use lib.ListN.{length, set, length-set}
 use Rattle.meaning.specs.Following.{app}
 use Rattle.meaning.specs.Joins.{cong, equation, applications, put}
-use Rattle.table.specs.Map.{leftOf, rightOf, resultOf, listOf, labelOf, nextOf, headOf, joinBy, Within}
+use Rattle.table.specs.Map.{leftOf, rightOf, resultOf, listOf, labelOf, headOf, joinBy, Within}
 use Rattle.table.proofs.Frame.{seen-in, seen-out, within-refl, within-trans, within-set}
 use Rattle.closure.specs.declared.Task.{Task}
-use Rattle.closure.specs.Chain.{seekTo, hits, look}
-use Rattle.closure.specs.State.{State, Kept, Valid, Joining, Joined, Stepping, Stepped, Unifying, Passed, Cleared, eqnOf, keyOf, resOf}
+use Rattle.closure.specs.Chain.{seekTo, hits, look, Chains}
+use Rattle.closure.specs.State.{State, Kept, Valid, Joining, Joined, Stepping, Stepped, Unifying, Passed, Cleared, eqnOf, keyOf, resOf, reach, width, nextTo, nextIn, headIn}
 use Rattle.closure.proofs.Chain.{chains-none, filled-none, chains-up, below, look-hit, filled-pass, filled-skip, chains-insert, filled-insert}
 use Rattle.closure.proofs.Rows.{row-left, row-right, row-result, row-in, row-at}
-use Rattle.closure.proofs.Views.{wide-frame, results, chains-state, chains-kept, eqns-same, keys-same, ress-same, equals-same}
+use Rattle.closure.proofs.Views.{bucket-low, reach-most, width-most, head-is, cut-falls, seek-cut, wide-frame, results, chains-state, chains-kept, eqns-same, keys-same, ress-same, equals-same}
 
 pub kept-refl : (b : Bool) (w : List ℕ) → Kept b w w
 kept-refl b w = record { frame = within-refl w; list = refl }
@@ -43,12 +43,12 @@ joined-stepped {t} {w} {w′} {i} {n} s j = record {
 
 module _ {t : Task} {w : List ℕ} {i n : ℕ} (s : Stepping t w i n) where
   -- Nothing is written where the labels agree.
-  stay : (Valid w i → Valid w (suc i)) → Stepped t w i n w n
+  stay : (Valid (t .few) w i → Valid (t .few) w (suc i)) → Stepped t w i n w n
   stay v = record { state = s .state; kept = kept-refl (t .keep) w; chains = chains-up (omega arith) (s .chains); more = omega arith; valid = λ e. v }
 
   pub equate-stay : eqnOf w i ≡ true → (k : ℕ) → k ≡ listOf w i → labelOf w (leftOf w k) ≡ labelOf w (rightOf w k) → Stepped t w i n w n
   equate-stay q k ek e = stay (λ v. record {
-    filled = filled-pass (eqnOf w) (keyOf w) (resOf w) (headOf w) (nextOf w) i (s .chains) q (v .filled);
+    filled = filled-pass (width (t .few)) (eqnOf w) (keyOf w) (resOf w) (headIn (t .few) w) (nextIn (t .few) w) i (s .chains) q (v .filled);
     equal = below (λ j. eqnOf w j ≡ true → labelOf w (leftOf w (listOf w j)) ≡ labelOf w (rightOf w (listOf w j))) i (v .equal) (λ r. rw ek at e);
   })
 
@@ -71,7 +71,7 @@ split-key a b c d lb ld e = omega arith
 -- The application that the table has for the key.
 module _ {t : Task} {w : List ℕ} {p i n : ℕ} (u : Unifying t w p i n) where
   hit : (keyOf w (p - 1) ≡ keyOf w i) × ((p ≤ i) × (eqnOf w (p - 1) ≡ false))
-  hit = rw (u .found) (look-hit (eqnOf w) (keyOf w) (resOf w) (headOf w) (nextOf w) i (u .step .chains) (keyOf w i) (rw (u .found) at (u .hit)))
+  hit = rw (u .found) (look-hit (width (t .few)) (eqnOf w) (keyOf w) (resOf w) (headIn (t .few) w) (nextIn (t .few) w) i (u .step .chains) (keyOf w i) (rw (u .found) at (u .hit)))
 
   pub unify-low : p - 1 < t .places
   unify-low = omega (arith, hit .1 .0, u .step .place)
@@ -81,7 +81,7 @@ module _ {t : Task} {w : List ℕ} {p i n : ℕ} (u : Unifying t w p i n) where
 
   pub unify-stay : (k k′ : ℕ) → k ≡ listOf w (p - 1) → k′ ≡ listOf w i → labelOf w (resultOf w k) ≡ labelOf w (resultOf w k′) → Stepped t w i n w n
   unify-stay k k′ ek ek′ e = let q : resOf w (p - 1) ≡ resOf w i = rw (ek, ek′) at e in stay (u .step) (λ v. record {
-    filled = filled-skip (eqnOf w) (keyOf w) (resOf w) (headOf w) (nextOf w) i (u .step .chains) (rw (u .found) at (u .hit)) (rw (u .found) at q) (v .filled);
+    filled = filled-skip (width (t .few)) (eqnOf w) (keyOf w) (resOf w) (headIn (t .few) w) (nextIn (t .few) w) i (u .step .chains) (rw (u .found) at (u .hit)) (rw (u .found) at q) (v .filled);
     equal = below (λ j. eqnOf w j ≡ true → labelOf w (leftOf w (listOf w j)) ≡ labelOf w (rightOf w (listOf w j))) i (v .equal) (λ r. let z : _≡_ {A = ℕ} 0 1 = cc (u .app) in absurd (omega arith));
   })
 
@@ -110,62 +110,88 @@ module _ {t : Task} {w : List ℕ} {p i n : ℕ} (u : Unifying t w p i n) where
         ends = rw pair (inl (rw (← ek) (sym ea), rw (← ek′) (sym eb)));
       })
 
+-- Place i was put at the head of a bucket's chain.
+module _ (few : Bool) (w w′ : List ℕ) (i b : ℕ) (long : 32768 ≤ length w) (room : i < reach few) (low : b < width few) (e : w′ ≡ set (set w (22003 + i) (headIn few w b)) (26003 + b) (i + 1)) where
+  abbrev w₁ : List ℕ
+  w₁ = set w (22003 + i) (headIn few w b)
+
+  size : length w₁ ≡ length w
+  size = length-set w (22003 + i) (headIn few w b)
+
+  most : (i < 4000) × (b < 4093)
+  most = (omega (arith, room, reach-most few), omega (arith, low, width-most few))
+
+  pub put-frame : Within 22003 30096 w w′
+  put-frame = rw e (within-trans (within-set 22003 30096 w (22003 + i) (headIn few w b) (omega arith) (omega (arith, most))) (within-set 22003 30096 w₁ (26003 + b) (i + 1) (omega arith) (omega (arith, most))))
+
+  pub put-heads : headIn few w′ ≡ put b (suc i) (headIn few w)
+  put-heads = rw (e, add-one) (seen-in 26003 (width few) (λ x. 0) w₁ b (suc i) low (omega (arith, most, size, long))
+      ∙ ap (put b (suc i)) (seen-out 26003 (width few) (λ x. 0) w (22003 + i) (headIn few w b) (inl (omega (arith, most)))))
+
+  pub put-nexts : nextIn few w′ ≡ put i (headIn few w b) (nextIn few w)
+  put-nexts = rw e (seen-out 22003 (reach few) (λ x. 0) w₁ (26003 + b) (i + 1) (inr (omega (arith, reach-most few))) ∙ seen-in 22003 (reach few) (λ x. 0) w i (headIn few w b) room (omega (arith, most, long)))
+
 -- An application that is not found.
 module _ {t : Task} {w : List ℕ} {i n : ℕ} (s : Stepping t w i n) (q : eqnOf w i ≡ false) where
-  pub apply-new : (w′ : List ℕ) → w′ ≡ set (set w (22003 + i) (headOf w (keyOf w i % 4093))) (26003 + keyOf w i % 4093) (i + 1) → look (keyOf w) (headOf w) (nextOf w) (keyOf w i) ≡ 0 → Stepped t w i n w′ n
+  pub apply-new : (w′ : List ℕ) → w′ ≡ set (set w (22003 + i) (headIn (t .few) w (keyOf w i % width (t .few)))) (26003 + keyOf w i % width (t .few)) (i + 1)
+      → look (width (t .few)) (keyOf w) (headIn (t .few) w) (nextIn (t .few) w) (keyOf w i) ≡ 0 → Stepped t w i n w′ n
   apply-new w′ e z = record {
     state = chains-state frame (s .state);
     kept = chains-kept frame (t .keep);
-    chains = rw (eqns-same frame, heads, nexts) (chains-insert (eqnOf w) (keyOf w) (resOf w) (headOf w) (nextOf w) i (s .chains) q);
+    chains = rw (eqns-same frame, heads, nexts) (chains-insert (width (t .few)) (eqnOf w) (keyOf w) (resOf w) (headIn (t .few) w) (nextIn (t .few) w) i (s .chains) q);
     more = omega arith;
     valid = λ _ v. record {
-      filled = rw (eqns-same frame, keys-same frame, ress-same frame, heads, nexts) (filled-insert (eqnOf w) (keyOf w) (resOf w) (headOf w) (nextOf w) i (s .chains) q z (v .filled));
+      filled = rw (eqns-same frame, keys-same frame, ress-same frame, heads, nexts) (filled-insert (width (t .few)) (eqnOf w) (keyOf w) (resOf w) (headIn (t .few) w) (nextIn (t .few) w) i (s .chains) q z (v .filled));
       equal = equal v;
     };
   }
     where
-      w₁ : List ℕ
-      w₁ = set w (22003 + i) (headOf w (keyOf w i % 4093))
-
-      low : i < 4000
-      low = omega (arith, s .place, s .state .listed .short)
-
-      long : length w₁ ≡ length w
-      long = length-set w (22003 + i) (headOf w (keyOf w i % 4093))
+      room : i < reach (t .few)
+      room = omega (arith, s .place, s .state .room)
 
       frame : Within 22003 30096 w w′
-      frame = rw e (within-trans (within-set 22003 30096 w (22003 + i) (headOf w (keyOf w i % 4093)) (omega arith) (omega arith)) (within-set 22003 30096 w₁ (26003 + keyOf w i % 4093) (i + 1) (omega arith) (omega arith)))
+      frame = put-frame (t .few) w w′ i (keyOf w i % width (t .few)) (s .state .listed .loaded .long) room (bucket-low (t .few) (keyOf w i)) e
 
-      heads : headOf w′ ≡ put (keyOf w i % 4093) (suc i) (headOf w)
-      heads = rw (e, add-one) (seen-in 26003 4093 (λ x. 0) w₁ (keyOf w i % 4093) (suc i) (omega arith) (omega (arith, long, s .state .listed .loaded .long))
-          ∙ ap (put (keyOf w i % 4093) (suc i)) (seen-out 26003 4093 (λ x. 0) w (22003 + i) (headOf w (keyOf w i % 4093)) (inl (omega arith))))
+      heads : headIn (t .few) w′ ≡ put (keyOf w i % width (t .few)) (suc i) (headIn (t .few) w)
+      heads = put-heads (t .few) w w′ i (keyOf w i % width (t .few)) (s .state .listed .loaded .long) room (bucket-low (t .few) (keyOf w i)) e
 
-      nexts : nextOf w′ ≡ put i (headOf w (keyOf w i % 4093)) (nextOf w)
-      nexts = rw e (seen-out 22003 4000 (λ x. 0) w₁ (26003 + keyOf w i % 4093) (i + 1) (inr (omega arith)) ∙ seen-in 22003 4000 (λ x. 0) w i (headOf w (keyOf w i % 4093)) low (omega (arith, s .state .listed .loaded .long)))
+      nexts : nextIn (t .few) w′ ≡ put i (headIn (t .few) w (keyOf w i % width (t .few))) (nextIn (t .few) w)
+      nexts = put-nexts (t .few) w w′ i (keyOf w i % width (t .few)) (s .state .listed .loaded .long) room (bucket-low (t .few) (keyOf w i)) e
 
-      equal : Valid w i → (j : ℕ) → j < suc i → eqnOf w′ j ≡ true → labelOf w′ (leftOf w′ (listOf w′ j)) ≡ labelOf w′ (rightOf w′ (listOf w′ j))
+      equal : Valid (t .few) w i → (j : ℕ) → j < suc i → eqnOf w′ j ≡ true → labelOf w′ (leftOf w′ (listOf w′ j)) ≡ labelOf w′ (rightOf w′ (listOf w′ j))
       equal v = equals-same frame (suc i) (below (λ j. eqnOf w j ≡ true → labelOf w (leftOf w (listOf w j)) ≡ labelOf w (rightOf w (listOf w j))) i (v .equal) (λ r. let z : _≡_ {A = ℕ} 0 1 = cc q in absurd (omega arith)))
 
-  -- The same, of the key and the link as they were found.
-  pub apply-insert : (w′ : List ℕ) (x p : ℕ) → x ≡ keyOf w i → p ≡ look (keyOf w) (headOf w) (nextOf w) (keyOf w i) → p ≡ 0
-      → w′ ≡ set (set w (22003 + i) (headOf w (x % 4093))) (26003 + x % 4093) (i + 1) → Stepped t w i n w′ n
-  apply-insert w′ x p ex ep z e = apply-new w′ (rw ex at e) (sym ep ∙ z)
+  -- The same, of the key, the bucket and the link as they were found.
+  pub apply-insert : (w′ : List ℕ) (x b p : ℕ) → x ≡ keyOf w i → b ≡ x % width (t .few) → p ≡ look (width (t .few)) (keyOf w) (headIn (t .few) w) (nextIn (t .few) w) (keyOf w i) → p ≡ 0
+      → w′ ≡ set (set w (22003 + i) (headOf w b)) (26003 + b) (i + 1) → Stepped t w i n w′ n
+  apply-insert w′ x b p ex eb ep z e = apply-new w′ (rw (head-is (t .few) w (x % width (t .few)) (bucket-low (t .few) x), ex) at (rw eb at e)) (sym ep ∙ z)
 
-pub apply-found : (w : List ℕ) (i x from p : ℕ) → x ≡ keyOf w i → from ≡ headOf w (x % 4093) → p ≡ seekTo (nextOf w) (hits (keyOf w) x) from → p ≡ look (keyOf w) (headOf w) (nextOf w) (keyOf w i)
-unfolding look
-apply-found w i x from p ex ef ep = ep ∙ rw (ef, ex)
+-- What the search found is what the table has for the key.
+module _ (t : Task) (w : List ℕ) {i : ℕ} {eqn : ℕ → Bool} (room : i ≤ reach (t .few)) (chains : Chains eqn (headIn (t .few) w) (nextIn (t .few) w) i) (x b from : ℕ) (eb : b ≡ x % width (t .few)) (ef : from ≡ headOf w b) where
+  from-is : from ≡ headIn (t .few) w (x % width (t .few))
+  from-is = ef ∙ rw eb (head-is (t .few) w (x % width (t .few)) (bucket-low (t .few) x))
+
+  pub apply-low : from ≤ i
+  apply-low = rw from-is (chains .heads (x % width (t .few)))
+
+  pub apply-falls : (r : ℕ) → nextTo from w r ≤ r
+  apply-falls = cut-falls (t .few) w from (omega (arith, apply-low)) (chains .falls)
+
+  pub apply-found : (p : ℕ) → x ≡ keyOf w i → p ≡ seekTo (nextTo from w) (hits (keyOf w) x) from → p ≡ look (width (t .few)) (keyOf w) (headIn (t .few) w) (nextIn (t .few) w) (keyOf w i)
+  unfolding look
+  apply-found p ex ep = ep ∙ seek-cut (t .few) w from (omega (arith, apply-low)) (chains .falls) (hits (keyOf w) x) ∙ rw (from-is, ex)
 
 pub eqn-is : (w : List ℕ) (i k : ℕ) (b v : Bool) → k ≡ listOf w i → b ≡ eqb (resultOf w k) 65535 → b ≡ v → eqnOf w i ≡ v
 eqn-is w i k b v ek eb ev = rw (← ek) (sym eb ∙ ev)
 
 -- A pass begins with no chains, and goes on by steps.
-pub passed-none : {t : Task} {w w′ : List ℕ} {n : ℕ} → State t w n → Cleared w w′ → Passed t w′ n 0 w′ n
+pub passed-none : {t : Task} {w w′ : List ℕ} {n : ℕ} → State t w n → Cleared (t .few) w w′ → Passed t w′ n 0 w′ n
 passed-none {t} {w} {w′} s c = record {
   state = chains-state (c .frame) s;
   kept = kept-refl (t .keep) w′;
-  chains = chains-none (eqnOf w′) (headOf w′) (nextOf w′) (c .heads) (c .nexts);
+  chains = chains-none (eqnOf w′) (headIn (t .few) w′) (nextIn (t .few) w′) (c .heads) (c .nexts);
   more = omega arith;
-  valid = λ e. record { filled = filled-none (eqnOf w′) (keyOf w′) (resOf w′) (headOf w′) (nextOf w′); equal = λ j l. absurd (omega arith) };
+  valid = λ e. record { filled = filled-none (width (t .few)) (eqnOf w′) (keyOf w′) (resOf w′) (headIn (t .few) w′) (nextIn (t .few) w′); equal = λ j l. absurd (omega arith) };
 }
 
 pub passed-step : {t : Task} {w w′ w″ : List ℕ} {n i n′ n″ : ℕ} → Passed t w n i w′ n′ → Stepped t w′ i n′ w″ n″ → Passed t w n (i + 1) w″ n″
@@ -177,5 +203,5 @@ passed-step {i = i} p s = rw add-one (record {
   valid = λ e. s .valid (omega (arith, p .more, s .more)) (p .valid (omega (arith, p .more, s .more)));
 })
 
-pub passed-from : {t : Task} {w w′ w″ : List ℕ} {n i n″ : ℕ} → Cleared w w′ → Passed t w′ n i w″ n″ → Passed t w n i w″ n″
+pub passed-from : {t : Task} {w w′ w″ : List ℕ} {n i n″ : ℕ} → Cleared (t .few) w w′ → Passed t w′ n i w″ n″ → Passed t w n i w″ n″
 passed-from {t} c p = record { state = p .state; kept = kept-trans (chains-kept (c .frame) (t .keep)) (p .kept); chains = p .chains; more = p .more; valid = p .valid }

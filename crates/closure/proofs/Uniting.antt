@@ -16,7 +16,7 @@ use Rattle.meaning.proofs.Relabel.{relabel-labels, relabel-classes, Ends}
 use Rattle.table.specs.Map.{parentOf, ageOf, firstOf, secondOf, whenOf, listOf, labelOf, joinBy, joinAt, Within}
 use Rattle.table.proofs.Frame.{seen-in, seen-out, seen-within, within-trans, within-wider, within-set}
 use Rattle.closure.specs.declared.Task.{Task}
-use Rattle.closure.specs.State.{State, Joining, Joined, Relabelled, noted}
+use Rattle.closure.specs.State.{reach, width, State, Joining, Joined, Relabelled, noted}
 use Rattle.closure.proofs.Joining.{sound-join, logged-join}
 use Rattle.closure.proofs.Views.{lefts, rights, results, listed-same}
 
@@ -124,6 +124,7 @@ module _ {t : Task} {w : List ℕ} {n k k′ lo hi : ℕ} (J : Joining t w n k k
   pub unite-state : {w′ : List ℕ} → Within 12003 30096 w w′ → listOf w′ ≡ listOf w → labelOf w′ ≡ (λ x. into lo hi (f x)) → (T (t .keep) → Log w w′ lo hi n k k′ (t .places)) → State t w′ (suc n)
   unite-state {w′} r l b g = record {
     listed = listed-same r l (J .state .listed);
+    room = J .state .room;
     labels = rw b (relabel-labels f lo hi (J .state .labels) (of-lo (J .ends)) (of-hi (J .ends) .0) less);
     sound = rw (lefts r, rights r, results r, l, b) (sound-join lo hi (J .state .sound) (J .due) (J .ends));
     total = rw b (omega (arith, fewer, J .state .total));
@@ -136,8 +137,8 @@ module _ {t : Task} {w : List ℕ} {n k k′ lo hi : ℕ} (J : Joining t w n k k
   unite-bare {w′} e m = record {
     state = unite-state (within-wider 12003 30096 (omega arith) (omega arith) (m .frame)) list (m .labels) (λ y. absurd (rw e at y));
     kept = rw e (record { frame = within-wider 21003 30096 (omega arith) (omega arith) (m .frame); list = list });
-    heads = seen-within 26003 4093 (λ x. 0) (m .frame) (inr (omega arith));
-    nexts = seen-within 22003 4000 (λ x. 0) (m .frame) (inr (omega arith));
+    heads = seen-within 26003 (width (t .few)) (λ x. 0) (m .frame) (inr (omega arith));
+    nexts = seen-within 22003 (reach (t .few)) (λ x. 0) (m .frame) (inr (omega arith));
   }
     where
       r : Within 21003 22003 w w′
@@ -151,8 +152,8 @@ module _ {t : Task} {w : List ℕ} {n k k′ lo hi : ℕ} (J : Joining t w n k k
   unite-kept {w′} {w″} e m long q = record {
     state = unite-state frame list (label ∙ m .labels) (λ y. log);
     kept = rw e (record { frame = frame; list = list });
-    heads = seen-within 26003 4093 (λ x. 0) s (inr (omega arith)) ∙ seen-within 26003 4093 (λ x. 0) (m .frame) (inr (omega arith));
-    nexts = seen-within 22003 4000 (λ x. 0) s (inr (omega arith)) ∙ seen-within 22003 4000 (λ x. 0) (m .frame) (inr (omega arith));
+    heads = seen-within 26003 (width (t .few)) (λ x. 0) s (inr (omega arith)) ∙ seen-within 26003 (width (t .few)) (λ x. 0) (m .frame) (inr (omega arith));
+    nexts = seen-within 22003 (reach (t .few)) (λ x. 0) s (inr (omega arith)) ∙ seen-within 22003 (reach (t .few)) (λ x. 0) (m .frame) (inr (omega arith));
   }
     where
       r : Within 21003 22003 w w′

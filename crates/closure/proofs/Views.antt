@@ -1,22 +1,26 @@
 -- What the regions show after a part of the table was written: a frame keeps each region outside it, and so the records, the list, the joins and the
 -- state that are read off the regions.
 -- Assumes nothing.
-use Prim.Native.Nat.{ℕ, _+_, _-_, _≤_, _<_}
+use Prim.Native.Nat.{ℕ, _+_, _-_, _%_, _≤_, _<_}
 use native.Mathlib.Omega.{arith}
 use native.Mathlib.Decide.{decLt}
 use mathlib.Core.Path.{_≡_, sym, ap, _∙_, fun-ext}
 use mathlib.Core.Logic.{_⊎_, inl, inr}
 use mathlib.Core.Bool.{Bool, true, false, cond}
+use lib.Dec.{leb}
+use borrow.Author.Tests.{le-leb, lt-leb}
 use mathlib.Core.List.{List, _++_, map, append-assoc}
 use lib.ListN.{length, take, drop, getD, length-append, length-drop, length-map, List·getD-map, List·getD-append}
 use lib.Seq.{getD-take, getD-drop, length-take-le, drop-at, drop-drop}
 use Rattle.meaning.specs.Labels.{into}
 use Rattle.meaning.proofs.Relabel.{into-miss, getD-any}
-use Rattle.table.specs.Map.{leftOf, rightOf, resultOf, parentOf, ageOf, firstOf, secondOf, whenOf, listOf, labelOf, savedOf, nextOf, headOf, joinAt, recordsIn, Loaded, Within}
+use Rattle.table.specs.Map.{leftOf, rightOf, resultOf, parentOf, ageOf, firstOf, secondOf, whenOf, listOf, labelOf, savedOf, nextOf, headOf, seen, joinAt, recordsIn, Loaded, Within}
 use Rattle.table.proofs.Frame.{seen-at, seen-past, seen-within, within-trans, within-wider}
+use Rattle.closure.specs.Chain.{seekTo}
 use Rattle.closure.specs.Closing.{Listed}
 use Rattle.closure.specs.declared.Task.{Task}
-use Rattle.closure.specs.State.{State, Fills, CountsUp, Raised, Lowered, Relabelled, Fresh, Preserved, Restored, Cleared, Unlinked, Enlisted, Begun, Kept, eqnOf, keyOf, resOf}
+use Rattle.closure.specs.State.{reach, width, nextTo, nextIn, headIn, State, Fills, CountsUp, Raised, Lowered, Relabelled, Fresh, Preserved, Restored, Cleared, Unlinked, Enlisted, Begun, Kept, eqnOf, keyOf, resOf}
+use Rattle.closure.proofs.Chain.{seek-same}
 
 -- A part that was lent comes back as the list v.
 module _ (at n : ℕ) (w v : List ℕ) (fits : at + n ≤ length w) (size : length v ≡ n) where
@@ -74,6 +78,10 @@ module _ (at n : ℕ) (w w′ v : List ℕ) (fits : at + n ≤ length w) (size :
   lent-at : (f : ℕ → ℕ) → ((i : ℕ) → i < length v → getD v i 0 ≡ f i) → (x : ℕ) → x < n → getD w′ (at + x) 0 ≡ f x
   lent-at f h x l = rw e (part-at at n w v fits part-length x l ∙ h x (omega (arith, part-length)))
 
+-- A region of noughts.
+seen-zero : (at n : ℕ) (w : List ℕ) (x : ℕ) → ((x : ℕ) → x < n → getD w (at + x) 0 ≡ 0) → seen at n (λ x. 0) w x ≡ 0
+seen-zero at n w x h = elim (decLt x n) [ yes l ↦ seen-at at n (λ x. 0) w x l ∙ h x l | no l ↦ seen-past at n (λ x. 0) w x (omega arith) ]
+
 module _ (w w′ v : List ℕ) (long : 32768 ≤ length w) where
   pub freshened : length v ≡ length (take 1000 (drop 21003 w)) → w′ ≡ take 21003 w ++ (v ++ drop 1000 (drop 21003 w)) → CountsUp v 0 → Fresh w w′
   freshened s e h = record { frame = lent-within 21003 1000 w w′ v (omega arith) s e; labels = λ x. go x (decLt x 1000) }
@@ -82,19 +90,28 @@ module _ (w w′ v : List ℕ) (long : 32768 ≤ length w) where
       go x (yes l) = seen-at 21003 1000 (λ x. x) w′ x l ∙ lent-at 21003 1000 w w′ v (omega arith) s e (λ i. 0 + i) h x l ∙ omega arith
       go x (no l) = seen-past 21003 1000 (λ x. x) w′ x (omega arith)
 
-  pub cleared : length v ≡ length (take 8093 (drop 22003 w)) → w′ ≡ take 22003 w ++ (v ++ drop 8093 (drop 22003 w)) → Fills v 0 → Cleared w w′
-  cleared s e h = record { frame = lent-within 22003 8093 w w′ v (omega arith) s e; heads = λ b. head b (decLt b 4093); nexts = λ r. next r (decLt r 4000) }
+  pub cleared : length v ≡ length (take 8093 (drop 22003 w)) → w′ ≡ take 22003 w ++ (v ++ drop 8093 (drop 22003 w)) → Fills v 0 → Cleared false w w′
+  cleared s e h = record { frame = lent-within 22003 8093 w w′ v (omega arith) s e; heads = λ b. seen-zero 26003 4093 w′ b (λ x l. head x l); nexts = λ r. seen-zero 22003 4000 w′ r (λ x l. zero-at x (omega arith)) }
     where
       zero-at : (x : ℕ) → x < 8093 → getD w′ (22003 + x) 0 ≡ 0
       zero-at = lent-at 22003 8093 w w′ v (omega arith) s e (λ i. 0) h
 
-      head : (b : ℕ) → Dec (b < 4093) → headOf w′ b ≡ 0
-      head b (yes l) = let q : 26003 + b ≡ 22003 + (4000 + b) = omega arith in seen-at 26003 4093 (λ x. 0) w′ b l ∙ rw q (zero-at (4000 + b) (omega arith))
-      head b (no l) = seen-past 26003 4093 (λ x. 0) w′ b (omega arith)
+      head : (b : ℕ) → b < 4093 → getD w′ (26003 + b) 0 ≡ 0
+      head b l = let q : 26003 + b ≡ 22003 + (4000 + b) = omega arith in rw q (zero-at (4000 + b) (omega arith))
 
-      next : (r : ℕ) → Dec (r < 4000) → nextOf w′ r ≡ 0
-      next r (yes l) = seen-at 22003 4000 (λ x. 0) w′ r l ∙ zero-at r (omega arith)
-      next r (no l) = seen-past 22003 4000 (λ x. 0) w′ r (omega arith)
+  pub cleared-few : (w″ u : List ℕ) → length v ≡ length (take 60 (drop 22003 w)) → w′ ≡ take 22003 w ++ (v ++ drop 60 (drop 22003 w)) → Fills v 0
+      → length u ≡ length (take 61 (drop 26003 w′)) → w″ ≡ take 26003 w′ ++ (u ++ drop 61 (drop 26003 w′)) → Fills u 0 → Cleared true w w″
+  cleared-few w″ u s e h s′ e′ h′ = record {
+    frame = within-trans (within-wider 22003 30096 (omega arith) (omega arith) one) (within-wider 22003 30096 (omega arith) (omega arith) two);
+    heads = λ b. seen-zero 26003 61 w″ b (lent-at 26003 61 w′ w″ u (omega (arith, one .size)) s′ e′ (λ i. 0) h′);
+    nexts = λ r. rw (seen-within 22003 60 (λ x. 0) two (inl (omega arith))) (seen-zero 22003 60 w′ r (lent-at 22003 60 w w′ v (omega arith) s e (λ i. 0) h));
+  }
+    where
+      one : Within 22003 22063 w w′
+      one = lent-within 22003 60 w w′ v (omega arith) s e
+
+      two : Within 26003 26064 w′ w″
+      two = lent-within 26003 61 w′ w″ u (omega (arith, one .size)) s′ e′
 
   pub unlinked : length v ≡ length (take 1000 (drop 13003 w)) → w′ ≡ take 13003 w ++ (v ++ drop 1000 (drop 13003 w)) → Fills v 1000 → Unlinked w w′
   unlinked s e h = record { frame = lent-within 13003 1000 w w′ v (omega arith) s e; ages = λ x. go x (decLt x 1000) }
@@ -159,7 +176,7 @@ module _ (w w′ v : List ℕ) (long : 32768 ≤ length w) (s : length v ≡ len
           seen-at 21003 1000 (λ x. x) w′ x l ∙ new x (omega arith) ∙ r .under x (rw whole (omega arith)) ∙ old (10093 + x) (omega arith) ∙ ap (λ (n : ℕ). getD w n 0) c ∙ sym (seen-at 31096 1000 (λ x. x) w x l)
       go x (no l) = seen-past 21003 1000 (λ x. x) w′ x (omega arith) ∙ sym (seen-past 31096 1000 (λ x. x) w x (omega arith))
 
-pub begun : {w a b c d : List ℕ} → Unlinked w a → Enlisted a b → Fresh b c → Cleared c d → Begun w d
+pub begun : {w a b c d : List ℕ} → Unlinked w a → Enlisted a b → Fresh b c → Cleared false c d → Begun w d
 begun u l f z = record {
   frame = within-trans (within-wider 12003 30096 (omega arith) (omega arith) (u .frame)) (within-trans (within-wider 12003 30096 (omega arith) (omega arith) (l .frame))
       (within-trans (within-wider 12003 30096 (omega arith) (omega arith) (f .frame)) (within-wider 12003 30096 (omega arith) (omega arith) (z .frame))));
@@ -226,6 +243,7 @@ module _ {w w′ : List ℕ} (f : Within 22003 30096 w w′) where
   pub chains-state : {t : Task} {n : ℕ} → State t w n → State t w′ n
   chains-state s = record {
     listed = listed-same frame list (s .listed);
+    room = s .room;
     labels = rw label (s .labels);
     sound = rw (lefts frame, rights frame, results frame, list, label) (s .sound);
     total = rw label (s .total);
@@ -249,3 +267,36 @@ module _ {w w′ : List ℕ} (f : Within 22003 30096 w w′) where
   pub equals-same : (i : ℕ) → ((j : ℕ) → j < i → eqnOf w j ≡ true → labelOf w (leftOf w (listOf w j)) ≡ labelOf w (rightOf w (listOf w j)))
       → (j : ℕ) → j < i → eqnOf w′ j ≡ true → labelOf w′ (leftOf w′ (listOf w′ j)) ≡ labelOf w′ (rightOf w′ (listOf w′ j))
   equals-same i h = rw (lefts frame, rights frame, results frame, list, label) h
+
+-- Buckets and links of a table with few places or many.
+pub bucket-low : (few : Bool) (x : ℕ) → x % width few < width few
+bucket-low true x = omega arith
+bucket-low false x = omega arith
+
+pub width-most : (few : Bool) → width few ≤ 4093
+width-most true = omega arith
+width-most false = omega arith
+
+pub reach-most : (few : Bool) → reach few ≤ 4000
+reach-most true = omega arith
+reach-most false = omega arith
+
+pub few-room : (n : ℕ) → n ≤ 4000 → n ≤ reach (leb n 60)
+few-room n l = elim (decLt 60 n) [ yes k ↦ rw (lt-leb n 60 k) l | no k ↦ rw (le-leb n 60 (omega arith)) (omega arith) ]
+
+pub head-is : (few : Bool) (w : List ℕ) (b : ℕ) → b < width few → headOf w b ≡ headIn few w b
+head-is few w b l = seen-at 26003 4093 (λ x. 0) w b (omega (arith, l, width-most few)) ∙ sym (seen-at 26003 (width few) (λ x. 0) w b l)
+
+pub next-is : (n : ℕ) (w : List ℕ) (r : ℕ) → r < n → n ≤ 4000 → nextOf w r ≡ nextTo n w r
+next-is n w r l k = seen-at 22003 4000 (λ x. 0) w r (omega arith) ∙ sym (seen-at 22003 n (λ x. 0) w r l)
+
+-- A chain leads down: the links below its begin are all it needs.
+module _ (few : Bool) (w : List ℕ) (from : ℕ) (l : from ≤ reach few) (falls : (r : ℕ) → nextIn few w r ≤ r) where
+  cut : (r : ℕ) → r < from → nextTo from w r ≡ nextIn few w r
+  cut r k = seen-at 22003 from (λ x. 0) w r k ∙ sym (seen-at 22003 (reach few) (λ x. 0) w r (omega arith))
+
+  pub cut-falls : (r : ℕ) → nextTo from w r ≤ r
+  cut-falls r = elim (decLt r from) [ yes k ↦ rw (cut r k) (falls r) | no k ↦ rw (seen-past 22003 from (λ x. 0) w r (omega arith)) (omega arith) ]
+
+  pub seek-cut : (hit : ℕ → Bool) → seekTo (nextTo from w) hit from ≡ seekTo (nextIn few w) hit from
+  seek-cut hit = seek-same (nextTo from w) (nextIn few w) hit from cut-falls cut

@@ -1,4 +1,4 @@
--- A hash table of the list's places by a key, with a chain in each of 4,093 buckets that goes to lower places only.
+-- A hash table of the list's places by a key, with a chain in each of B buckets that goes to lower places only.
 -- A link is 0, or one more than a place. Assumes nothing.
 use Prim.Native.Nat.{ℕ, zero, suc, _-_, _%_, _≤_, _<_}
 use mathlib.Core.Path.{_≡_}
@@ -18,8 +18,8 @@ abbrev pub hits : (ℕ → ℕ) → ℕ → ℕ → Bool
 hits key x r = eqb (key r) x
 
 -- What the table has for the key x.
-unfoldable pub look : (ℕ → ℕ) → (ℕ → ℕ) → (ℕ → ℕ) → ℕ → ℕ
-look key hd nx x = seekTo nx (hits key x) (hd (x % 4093))
+unfoldable pub look : ℕ → (ℕ → ℕ) → (ℕ → ℕ) → (ℕ → ℕ) → ℕ → ℕ
+look B key hd nx x = seekTo nx (hits key x) (hd (x % B))
 
 -- Chains begin below i, lead down, and hold no equation.
 pub record Chains (eqn : ℕ → Bool) (hd nx : ℕ → ℕ) (i : ℕ) : Type 0 where
@@ -29,6 +29,6 @@ pub record Chains (eqn : ℕ → Bool) (hd nx : ℕ → ℕ) (i : ℕ) : Type 0 
   pub next-app : (r : ℕ) → 0 < nx r → eqn (nx r - 1) ≡ false
 
 -- Each application below i is found by its key, or one with its key and its result's label.
-pub record Filled (eqn : ℕ → Bool) (key res hd nx : ℕ → ℕ) (i : ℕ) : Type 0 where
-  pub found : (j : ℕ) → j < i → eqn j ≡ false → 0 < look key hd nx (key j)
-  pub agree : (j : ℕ) → j < i → eqn j ≡ false → res (look key hd nx (key j) - 1) ≡ res j
+pub record Filled (B : ℕ) (eqn : ℕ → Bool) (key res hd nx : ℕ → ℕ) (i : ℕ) : Type 0 where
+  pub found : (j : ℕ) → j < i → eqn j ≡ false → 0 < look B key hd nx (key j)
+  pub agree : (j : ℕ) → j < i → eqn j ≡ false → res (look B key hd nx (key j) - 1) ≡ res j

@@ -12,7 +12,7 @@ use Rattle.meaning.specs.Joins.{Join, Grounds, Justified, all, numbersOf, used,
 use Rattle.meaning.specs.Labels.{Labels, into, classes}
 use Rattle.meaning.specs.Forest.{root, History}
 use Rattle.meaning.proofs.Exact.{Settled}
-use Rattle.table.specs.Map.{leftOf, rightOf, resultOf, parentOf, ageOf, whenOf, listOf, labelOf, savedOf, nextOf, headOf, joinBy, joinAt, recordsIn, listIn, Within}
+use Rattle.table.specs.Map.{leftOf, rightOf, resultOf, parentOf, ageOf, whenOf, listOf, labelOf, savedOf, seen, joinBy, joinAt, recordsIn, listIn, Within}
 use Rattle.closure.specs.Chain.{look, Chains, Filled}
 use Rattle.closure.specs.Closing.{Listed}
 use Rattle.closure.specs.declared.Task.{Task}
@@ -30,6 +30,22 @@ keyOf w j = keyIn w (listOf w j)
 abbrev pub resOf : List ℕ → ℕ → ℕ
 resOf w j = labelOf w (resultOf w (listOf w j))
 
+-- How many places and buckets the chains have; and the links, of the first n places and of all, and the heads.
+abbrev pub reach : Bool → ℕ
+reach few = cond few 60 4000
+
+abbrev pub width : Bool → ℕ
+width few = cond few 61 4093
+
+abbrev pub nextTo : ℕ → List ℕ → ℕ → ℕ
+nextTo n w = seen 22003 n (λ x. 0) w
+
+abbrev pub nextIn : Bool → List ℕ → ℕ → ℕ
+nextIn few w = nextTo (reach few) w
+
+abbrev pub headIn : Bool → List ℕ → ℕ → ℕ
+headIn few w = seen 26003 (width few) (λ x. 0) w
+
 -- The joins kept so far, when the records 1 to `places` are being closed: a log with its forest, whose newest leaders are the labels, and each
 -- moment before this one.
 pub record Logged (rs : List Rec) (L : List ℕ) (places : ℕ) (f p g : ℕ → ℕ) (e : ℕ → Join) (wh : ℕ → ℕ) (n : ℕ) : Type 0 where
@@ -44,6 +60,7 @@ pub record Logged (rs : List Rec) (L : List ℕ) (places : ℕ) (f p g : ℕ →
 -- After n joins: labels lead within what follows from the list, and each join made one class fewer.
 pub record State (t : Task) (w : List ℕ) (n : ℕ) : Type 0 where
   pub listed : Listed (t .size) (t .len) (t .places) w
+  pub room : t .places ≤ reach (t .few)
   pub labels : Labels (labelOf w)
   pub sound : (x : ℕ) → Follows (Only (recordsIn (t .len) w) (listIn (t .places) w)) x (labelOf w x)
   pub total : n + classes (labelOf w) (t .size) ≡ t .size
@@ -55,11 +72,11 @@ pub record Kept (keep : Bool) (w w′ : List ℕ) : Type 0 where
   pub list : listOf w′ ≡ listOf w
 
 -- The chains hold places below i; and with the labels as they are, no two of the first i places contradict them.
-abbrev pub Chained : List ℕ → ℕ → Type 0
-Chained w i = Chains (eqnOf w) (headOf w) (nextOf w) i
+abbrev pub Chained : Bool → List ℕ → ℕ → Type 0
+Chained few w i = Chains (eqnOf w) (headIn few w) (nextIn few w) i
 
-pub record Valid (w : List ℕ) (i : ℕ) : Type 0 where
-  pub filled : Filled (eqnOf w) (keyOf w) (resOf w) (headOf w) (nextOf w) i
+pub record Valid (few : Bool) (w : List ℕ) (i : ℕ) : Type 0 where
+  pub filled : Filled (width few) (eqnOf w) (keyOf w) (resOf w) (headIn few w) (nextIn few w) i
   pub equal : (j : ℕ) → j < i → eqnOf w j ≡ true → labelOf w (leftOf w (listOf w j)) ≡ labelOf w (rightOf w (listOf w j))
 
 -- A join is due: its records stand in the list, and their arguments have equal labels.
@@ -80,42 +97,42 @@ pub record Joining (t : Task) (w : List ℕ) (n k k′ a b : ℕ) : Type 0 where
 pub record Joined (t : Task) (w w′ : List ℕ) (n : ℕ) : Type 0 where
   pub state : State t w′ (suc n)
   pub kept : Kept (t .keep) w w′
-  pub heads : headOf w′ ≡ headOf w
-  pub nexts : nextOf w′ ≡ nextOf w
+  pub heads : headIn (t .few) w′ ≡ headIn (t .few) w
+  pub nexts : nextIn (t .few) w′ ≡ nextIn (t .few) w
 
 -- The record at place i is to be met; and was: n′ joins now, and if none came the table holds place i too.
 pub record Stepping (t : Task) (w : List ℕ) (i n : ℕ) : Type 0 where
   pub state : State t w n
-  pub chains : Chained w i
+  pub chains : Chained (t .few) w i
   pub place : i < t .places
 
 pub record Stepped (t : Task) (w : List ℕ) (i n : ℕ) (w′ : List ℕ) (n′ : ℕ) : Type 0 where
   pub state : State t w′ n′
   pub kept : Kept (t .keep) w w′
-  pub chains : Chained w′ (suc i)
+  pub chains : Chained (t .few) w′ (suc i)
   pub more : n ≤ n′
-  pub valid : n′ ≡ n → Valid w i → Valid w′ (suc i)
+  pub valid : n′ ≡ n → Valid (t .few) w i → Valid (t .few) w′ (suc i)
 
 -- The first i places were met; and all of them, until no join came.
 pub record Passed (t : Task) (w : List ℕ) (n i : ℕ) (w′ : List ℕ) (n′ : ℕ) : Type 0 where
   pub state : State t w′ n′
   pub kept : Kept (t .keep) w w′
-  pub chains : Chained w′ i
+  pub chains : Chained (t .few) w′ i
   pub more : n ≤ n′
-  pub valid : n′ ≡ n → Valid w′ i
+  pub valid : n′ ≡ n → Valid (t .few) w′ i
 
 pub record Rested (t : Task) (w : List ℕ) (n : ℕ) (w′ : List ℕ) (n′ : ℕ) : Type 0 where
   pub state : State t w′ n′
   pub kept : Kept (t .keep) w w′
-  pub chains : Chained w′ (t .places)
+  pub chains : Chained (t .few) w′ (t .places)
   pub more : n ≤ n′
-  pub valid : Valid w′ (t .places)
+  pub valid : Valid (t .few) w′ (t .places)
 
 -- The application at place i is to be met with the one that the link p leads to, which the table has for its key.
 pub record Unifying (t : Task) (w : List ℕ) (p i n : ℕ) : Type 0 where
   pub step : Stepping t w i n
   pub app : eqnOf w i ≡ false
-  pub found : p ≡ look (keyOf w) (headOf w) (nextOf w) (keyOf w i)
+  pub found : p ≡ look (width (t .few)) (keyOf w) (headIn (t .few) w) (nextIn (t .few) w) (keyOf w i)
   pub hit : 0 < p
 
 -- Parts that were written: the label hi became lo; each tag is its own label; the labels are saved, or those that are come back; no chains; no links; records 1, 2, 3, .. listed; and the five stores that
@@ -136,10 +153,10 @@ pub record Restored (w w′ : List ℕ) : Type 0 where
   pub frame : Within 21003 22003 w w′
   pub labels : labelOf w′ ≡ savedOf w
 
-pub record Cleared (w w′ : List ℕ) : Type 0 where
+pub record Cleared (few : Bool) (w w′ : List ℕ) : Type 0 where
   pub frame : Within 22003 30096 w w′
-  pub heads : (b : ℕ) → headOf w′ b ≡ 0
-  pub nexts : (r : ℕ) → nextOf w′ r ≡ 0
+  pub heads : (b : ℕ) → headIn few w′ b ≡ 0
+  pub nexts : (r : ℕ) → nextIn few w′ r ≡ 0
 
 pub record Unlinked (w w′ : List ℕ) : Type 0 where
   pub frame : Within 13003 14003 w w′
@@ -162,7 +179,7 @@ pub record Readable (w : List ℕ) (k : ℕ) : Type 0 where
 pub record Seeking (t : Task) (w : List ℕ) (from : ℕ) : Type 0 where
   pub listed : Listed (t .size) (t .len) (t .places) w
   pub low : from ≤ t .places
-  pub falls : (r : ℕ) → nextOf w r ≤ r
+  pub falls : (r : ℕ) → nextTo from w r ≤ r
 
 -- All numbers are v; they count up.
 abbrev pub Fills : List ℕ → ℕ → Type 0
@@ -184,18 +201,23 @@ pub record Lowered (l l′ : List ℕ) (gap : ℕ) : Type 0 where
 
 -- The first i places of the list stand in the chains, each with a key that no other of them has.
 pub record Singled (t : Task) (w : List ℕ) (i : ℕ) : Type 0 where
-  pub chains : Chains (λ j. false) (headOf w) (nextOf w) i
-  pub filled : Filled (λ j. false) (keyOf w) (λ j. 0) (headOf w) (nextOf w) i
+  pub room : t .places ≤ reach (t .few)
+  pub chains : Chains (λ j. false) (headIn (t .few) w) (nextIn (t .few) w) i
+  pub filled : Filled (width (t .few)) (λ j. false) (keyOf w) (λ j. 0) (headIn (t .few) w) (nextIn (t .few) w) i
   pub apart : (j k : ℕ) → j < k → k < i → keyOf w j ≢ keyOf w k
+
+-- The closure of a list by itself.
+abbrev pub apart : ℕ → ℕ → ℕ → Bool → Task
+apart N len n few = record { size = N; len = len; places = n; keep = false; few = few }
 
 -- The closure of records 1, 2, 3, .. between two of them: the first i are closed, by n joins.
 abbrev pub whole : ℕ → ℕ → ℕ → Task
-whole N len i = record { size = N; len = len; places = i; keep = true }
+whole N len i = record { size = N; len = len; places = i; keep = true; few = false }
 
 pub record Between (N len i : ℕ) (w : List ℕ) (n : ℕ) : Type 0 where
   pub state : State (whole N len i) w n
-  pub chains : Chained w i
-  pub valid : Valid w i
+  pub chains : Chained false w i
+  pub valid : Valid false w i
   pub listed : (j : ℕ) → j < 4000 → listOf w j ≡ suc j
 
 pub record Admitted (N len i : ℕ) (w : List ℕ) (n : ℕ) (w′ : List ℕ) (n′ : ℕ) : Type 0 where
@@ -209,5 +231,5 @@ pub record Begun (w w′ : List ℕ) : Type 0 where
   pub ages : (x : ℕ) → ageOf w′ x ≡ 1000
   pub listed : (j : ℕ) → j < 4000 → listOf w′ j ≡ suc j
   pub labels : (x : ℕ) → labelOf w′ x ≡ x
-  pub heads : (b : ℕ) → headOf w′ b ≡ 0
-  pub nexts : (r : ℕ) → nextOf w′ r ≡ 0
+  pub heads : (b : ℕ) → headIn false w′ b ≡ 0
+  pub nexts : (r : ℕ) → nextIn false w′ r ≡ 0

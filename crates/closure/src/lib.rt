@@ -7,19 +7,20 @@
 // a given list and keeps nothing. `hold` does so too and saves the labels, and `resume` begins with those, for a list that is a little longer.
 ghost use mathlib.Core.Path.{_≡_};
 ghost use mathlib.Core.List.{map, List·Memᴰ};
-ghost use Prim.Native.Nat.{ℕ, _+_, _*_, _≤_, _<_};
-ghost use lib.Dec.{eqb};
+ghost use Prim.Native.Nat.{ℕ, _+_, _*_, _%_, _≤_, _<_};
+ghost use lib.Dec.{eqb, leb};
 ghost use lib.ListN.{length, getD, set};
 ghost use mathlib.Core.Bool.{true, false};
 ghost use Rattle.meaning.specs.Labels.{into};
-ghost use Rattle.table.specs.Map.{labelOf, nextOf, headOf, listIn, Loaded, Within};
+ghost use Rattle.table.specs.Map.{labelOf, headOf, listIn, Loaded, Within};
 ghost use Rattle.closure.specs.Chain.{seekTo, hits};
-ghost use Rattle.closure.specs.State.{Fills, CountsUp, Raised, Lowered, Relabelled, Fresh, Preserved, Restored, Cleared, Unlinked, Enlisted, noted, keyIn, keyOf, eqnOf, Readable, Seeking, Joining, Joined, Stepping, Stepped, Unifying, State, Passed, Rested, Between, Admitted, Begun, Singled};
+ghost use Rattle.closure.specs.State.{Fills, CountsUp, Raised, Lowered, Relabelled, Fresh, Preserved, Restored, Cleared, Unlinked, Enlisted, width, nextTo, apart, noted, keyIn, keyOf, eqnOf, Readable, Seeking, Joining, Joined, Stepping, Stepped, Unifying, State, Passed, Rested, Between, Admitted, Begun, Singled};
 ghost use Rattle.closure.specs.Closing.{Listed, Closing, Entailing, Saved, Holding, Telling};
 use meaning::RecordNo;
 use meaning::Tag;
 use table::AGE;
 use table::FIRST;
+use table::HEADS;
 use table::LABEL;
 use table::LEADS;
 use table::LIST;
@@ -41,16 +42,21 @@ pub struct Held {
 }
 
 // What is closed: the list's first `places` records, of those 1 to `len` that the table holds of `size` tags. Joins are kept if `keep` says so, as
-// made at record number `places`.
+// made at record number `places`. The chains are short of places and buckets where `few` says so.
 struct Task {
     size: usize,
     len: usize,
     places: usize,
     keep: bool,
+    few: bool,
 }
 
-// The number of buckets.
+// The number of buckets. A list of at most FEW records gets so few that clearing them costs less than closing it.
 const BUCKETS: usize = 4093;
+
+const FEW: usize = 60;
+
+const FEW_BUCKETS: usize = 61;
 
 fn wide(x: u16) -> usize
     ensures { λ r. ⌜ r ≡ x ⌝ }
@@ -170,11 +176,30 @@ fn restore(work: &mut [u16])
 }
 
 // No place stands in a chain.
-fn clear(work: &mut [u16])
+fn clear_all(work: &mut [u16])
     requires { ⌜ 32768 ≤ length (now work) ⌝ }
-    ensures { λ _. ⌜ Cleared (now (work .entry)) (now (work .exit)) ⌝ }
+    ensures { λ _. ⌜ Cleared false (now (work .entry)) (now (work .exit)) ⌝ }
 {
     fill(&mut work[NEXT..MARKS], 0);
+}
+
+fn clear_few(work: &mut [u16])
+    requires { ⌜ 32768 ≤ length (now work) ⌝ }
+    ensures { λ _. ⌜ Cleared true (now (work .entry)) (now (work .exit)) ⌝ }
+{
+    fill(&mut work[NEXT..NEXT + FEW], 0);
+    fill(&mut work[HEADS..HEADS + FEW_BUCKETS], 0);
+}
+
+fn clear(work: &mut [u16], few: bool)
+    requires { ⌜ 32768 ≤ length (now work) ⌝ }
+    ensures { λ _. ⌜ Cleared few (now (work .entry)) (now (work .exit)) ⌝ }
+{
+    if few {
+        clear_few(work);
+    } else {
+        clear_all(work);
+    }
 }
 
 // No tag is linked.
@@ -245,10 +270,21 @@ fn key(work: &[u16], r: RecordNo) -> usize
     wide(x.0) * 65536 + wide(y.0)
 }
 
+// The bucket of a key.
+fn bucket(task: Task, x: usize) -> usize
+    ensures { λ b. ⌜ b ≡ x % width (task .few) ⌝ }
+{
+    if task.few {
+        x % FEW_BUCKETS
+    } else {
+        x % BUCKETS
+    }
+}
+
 // The first link of a chain whose record has the key x, or 0.
 fn seek(work: &[u16], task: Task, from: usize, x: usize) -> usize
     requires { ⌜ Seeking task (now work) from ⌝ }
-    ensures { λ r. ⌜ r ≡ seekTo (nextOf (now (work .entry))) (hits (keyOf (now (work .entry))) x) from ⌝ }
+    ensures { λ r. ⌜ r ≡ seekTo (nextTo from (now (work .entry))) (hits (keyOf (now (work .entry))) x) from ⌝ }
 {
     let mut p = from;
     while p != 0 {
@@ -313,7 +349,7 @@ fn apply(work: &mut [u16], task: Task, i: usize, joins: usize) -> usize
 {
     let r = table::listed(work, i);
     let x = key(work, r);
-    let b = x % BUCKETS;
+    let b = bucket(task, x);
     let from = table::head(work, b);
     let p = seek(work, task, from, x);
     if p == 0 {
@@ -341,7 +377,7 @@ fn pass(work: &mut [u16], task: Task, joins: usize) -> usize
     requires { ⌜ State task (now work) joins ⌝ }
     ensures { λ r. ⌜ Passed task (now (work .entry)) joins (task .places) (now (work .exit)) r ⌝ }
 {
-    clear(work);
+    clear(work, task.few);
     let n = task.places;
     let mut made = joins;
     let mut i = 0;
@@ -377,6 +413,7 @@ fn admit(work: &mut [u16], size: usize, len: usize, i: usize, joins: usize) -> u
         len: len,
         places: i + 1,
         keep: true,
+        few: false,
     };
     let after = step(work, task, i, joins);
     if after == joins {
@@ -393,7 +430,7 @@ fn begin(work: &mut [u16])
     unlink(work);
     enlist(work);
     fresh(work);
-    clear(work);
+    clear_all(work);
 }
 
 // Closes records 1 to len of `size` tags, one after the other, and keeps the joins.
@@ -419,6 +456,19 @@ pub fn close(work: &mut [u16], size: usize, len: usize) -> Totals
     }
 }
 
+// The list's first n records by themselves.
+fn alone(size: usize, len: usize, n: usize) -> Task
+    ensures { λ t. ⌜ t ≡ apart size len n (leb n 60) ⌝ }
+{
+    Task {
+        size: size,
+        len: len,
+        places: n,
+        keep: false,
+        few: n <= FEW,
+    }
+}
+
 // Whether two tags have one label.
 fn level(work: &[u16], s: Tag, t: Tag) -> bool
     requires { ⌜ (32768 ≤ length (now work)) × (s .0 < 1000) × (t .0 < 1000) ⌝ }
@@ -435,12 +485,7 @@ pub fn entails(work: &mut [u16], size: usize, len: usize, n: usize, s: Tag, t: T
     ensures { λ r. ⌜ Entailing size len n (s .0) (t .0) (now (work .entry)) (now (work .exit)) r ⌝ }
 {
     fresh(work);
-    let task = Task {
-        size: size,
-        len: len,
-        places: n,
-        keep: false,
-    };
+    let task = alone(size, len, n);
     settle(work, task, 0);
     level(work, s, t)
 }
@@ -451,12 +496,7 @@ pub fn hold(work: &mut [u16], size: usize, len: usize, n: usize, s: Tag, t: Tag)
     ensures { λ r. ⌜ Holding size len n (s .0) (t .0) (now (work .entry)) (now (work .exit)) (r .joins) (r .same) ⌝ }
 {
     fresh(work);
-    let task = Task {
-        size: size,
-        len: len,
-        places: n,
-        keep: false,
-    };
+    let task = alone(size, len, n);
     let joins = settle(work, task, 0);
     save(work);
     Held {
@@ -479,12 +519,7 @@ pub fn resume(
     ensures { λ r. ⌜ Entailing size len n (s .0) (t .0) (now (work .entry)) (now (work .exit)) r ⌝ }
 {
     restore(work);
-    let task = Task {
-        size: size,
-        len: len,
-        places: n,
-        keep: false,
-    };
+    let task = alone(size, len, n);
     settle(work, task, joins);
     level(work, s, t)
 }
@@ -496,7 +531,7 @@ fn single(work: &mut [u16], task: Task, i: usize) -> bool
 {
     let r = table::listed(work, i);
     let x = key(work, r);
-    let b = x % BUCKETS;
+    let b = bucket(task, x);
     let from = table::head(work, b);
     let p = seek(work, task, from, x);
     if p != 0 {
@@ -511,14 +546,9 @@ pub fn distinct(work: &mut [u16], size: usize, len: usize, n: usize) -> bool
     requires { ⌜ Listed size len n (now work) ⌝ }
     ensures { λ r. ⌜ Telling n (now (work .entry)) (now (work .exit)) r ⌝ }
 {
+    let task = alone(size, len, n);
     restore(work);
-    clear(work);
-    let task = Task {
-        size: size,
-        len: len,
-        places: n,
-        keep: false,
-    };
+    clear(work, task.few);
     let mut i = 0;
     while i < n {
         if single(work, task, i) {

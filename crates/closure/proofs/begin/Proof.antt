@@ -14,16 +14,16 @@ enlist-requires c κs = search needs
 fresh-requires : tie.Need-fresh-requires
 fresh-requires c κs = search needs
 
-clear-requires : tie.Need-clear-requires
-clear-requires c κs = search needs
+clear-all-requires : tie.Need-clear-all-requires
+clear-all-requires c κs = search needs
 
 same-length : tie.Need-same-length
 same-length c = search needs
 
 returns : tie.Need-returns
-returns c = begun (c .before .before .before .before .before .before .before .before .before .before .before .before .before .before .unlink .ensures) (c .before .before .before .before .before .before .before .before .before .before .enlist .ensures) (c .before .before .before .before .before .before .fresh .ensures) (c .before .before .clear .ensures)
+returns c = begun (c .before .before .before .before .before .before .before .before .before .before .before .before .before .before .unlink .ensures) (c .before .before .before .before .before .before .before .before .before .before .enlist .ensures) (c .before .before .before .before .before .before .fresh .ensures) (c .before .before .clear-all .ensures)
 
 pub begin-spec : {M : Type 1} → statement M
 begin-spec =
     tie.close
-    (tie.spec unlink-requires enlist-requires fresh-requires clear-requires same-length returns)
+    (tie.spec unlink-requires enlist-requires fresh-requires clear-all-requires same-length returns)

@@ -1,30 +1,27 @@
--- `clear` meets its contract. The part that is lent holds the links and the heads, and comes back as noughts.
--- Assumes nothing.
+-- `clear` meets its contract. Assumes nothing.
 use borrow.Author.Needs.{needs}
-use mathlib.Core.Path.{refl}
-use denote.Ref.{now}
 use Rattle.closure.proofs.clear.Statement.{statement}
 use Rattle.closure.proofs.clear.Tie as tie
-use Rattle.closure.proofs.Views.{cleared}
 
-sub-fill : tie.Need-sub-fill
-sub-fill c = search needs
+clear-few-requires : tie.Need-clear-few-requires
+clear-few-requires c κs = search needs
 
-part-fill-start : tie.Need-part-fill-start
-part-fill-start c = search needs
-
-part-fill-end : tie.Need-part-fill-end
-part-fill-end c = search needs
-
-fill-requires : tie.Need-fill-requires
-fill-requires c κs = search needs
+clear-all-requires : tie.Need-clear-all-requires
+clear-all-requires c κs = search needs
 
 same-length : tie.Need-same-length
-same-length c = search needs
+same-length c = c .before .before .clear-few .ensures .frame .size
 
 returns : tie.Need-returns
-returns c = cleared (now (c .before .before .before .before .before .args .work)) _ (c .before .before .fill .last .0) (c .before .before .before .before .before .pre) (c .before .before .fill .kept .0) refl (c .before .before .fill .ensures)
+returns c = rw (c .before .before .before .before .if1 .taken) (c .before .before .clear-few .ensures)
+
+same-length-2 : tie.Need-same-length-2
+same-length-2 c = c .before .before .clear-all .ensures .frame .size
+
+returns-2 : tie.Need-returns-2
+returns-2 c = rw (c .before .before .before .before .if1 .left) (c .before .before .clear-all .ensures)
 
 pub clear-spec : {M : Type 1} → statement M
 clear-spec =
-    tie.close (tie.spec sub-fill part-fill-start part-fill-end fill-requires same-length returns)
+    tie.close
+    (tie.spec clear-few-requires clear-all-requires same-length returns same-length-2 returns-2)

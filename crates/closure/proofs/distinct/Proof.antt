@@ -1,68 +1,74 @@
+-- `distinct` meets its contract. The first i records stand in the table, each with a key of its own.
+-- Assumes nothing.
 use borrow.Author.Needs.{needs}
+use mathlib.Core.Path.{_∙_}
+use Prim.Native.Nat.{_-_, _≤_}
+use native.Mathlib.Omega.{arith}
+use Rattle.table.specs.Map.{Within}
+use Rattle.table.proofs.Frame.{within-refl, within-trans}
+use Rattle.closure.specs.State.{Singled}
+use Rattle.closure.proofs.Singles.{alone-room, single-none, single-listed, single-done, single-failed}
 use Rattle.closure.proofs.distinct.Statement.{statement}
 use Rattle.closure.proofs.distinct.Tie as tie
-use Rattle.closure.proofs.distinct.Reads as reads
-use Rattle.closure.proofs.distinct.Lts as lts
-use Rattle.closure.proofs.clear.Reads as clear-reads
-use Rattle.closure.proofs.restore.Reads as restore-reads
-use Rattle.closure.proofs.single.Reads as single-reads
-use mathlib.Core.Path.{_≡_, refl, sym, ap, _∙_}
-use mathlib.Core.List.{List, map}
-use Prim.Native.Nat.{ℕ, zero, suc, _+_, _-_, _*_, _≤_, _<_}
-use native.Mathlib.Omega.{arith}
-use lib.ListN.{length, getD, set, take, drop, length-set}
-use mathlib.Core.Logic.{⊎-elim}
-use denote.Ref.{now}
 
 abbrev Inv-loop : tie.InvT-loop
-Inv-loop work₀ size len n task i₀ work i = ?
+Inv-loop work₀ size len n task i₀ work i = (i ≤ n) × Within 22003 30096 work₀ work × Singled task work i
 
 abbrev μ-loop : tie.MeasureT-loop
-μ-loop work₀ size len n task i₀ work i = ?
+μ-loop work₀ size len n task i₀ work i = n - i
 
--- src/lib.rt:514:5
+alone-requires : tie.Need-alone-requires Inv-loop μ-loop
+alone-requires c κs = search needs
+
 restore-requires : tie.Need-restore-requires Inv-loop μ-loop
-restore-requires c κs = ?
+restore-requires c κs = c .before .before .before .pre .loaded .long
 
--- src/lib.rt:515:5
 clear-requires : tie.Need-clear-requires Inv-loop μ-loop
-clear-requires c κs = ?
+clear-requires c κs = omega (arith, c .before .before .before .restore .ensures .frame .size, c .before .before .before .before .before .before .before .pre .loaded .long)
 
--- src/lib.rt:523:5
 loop-holds : tie.Need-loop-holds Inv-loop μ-loop
-loop-holds c = ?
+loop-holds c = (omega arith, within-refl _, single-none (alone-room (c .before .before .before .before .before .before .before .before .alone .ensures) (c .before .before .before .before .before .before .before .before .before .before .pre .short)) (c .before .before .clear .ensures))
 
--- src/lib.rt:524:12
 single-requires : tie.Need-single-requires Inv-loop μ-loop
-single-requires c κs = ?
+single-requires c κs =
+    let l = c .before .before in
+    let s = l .before .before .before .before .before .before .before .before .before .before .before in
+    let f = within-trans (l .before .before .before .clear .ensures .frame) (l .loop .inv .1) in
+    (single-listed (l .before .before .before .before .before .before .before .before .before .alone .ensures) (s .pre) (l .before .before .before .before .before .before .before .restore .ensures) f, l .loop .inv .2, rw (l .before .before .before .before .before .before .before .before .before .alone .ensures) (omega arith))
 
--- src/lib.rt:525:13
 add-i : tie.Need-add-i Inv-loop μ-loop
-add-i c = ?
+add-i c = search needs
 
--- src/lib.rt:523:5
 loop-less : tie.Need-loop-less Inv-loop μ-loop
-loop-less c = ?
+loop-less c = omega arith
 
--- src/lib.rt:523:5
 loop-again : tie.Need-loop-again Inv-loop μ-loop
-loop-again c = ?
+loop-again c =
+    let l = c .before .before .before .before .before .before in
+    let r = c .before .before .before .single .ensures in
+    (omega arith, within-trans (l .loop .inv .1) (r .0), r .1 (c .if1 .taken))
 
--- src/lib.rt:527:13
 same-length : tie.Need-same-length Inv-loop μ-loop
-same-length c = ?
+same-length c =
+    let l = c .before .before .before .before .before .before in
+    c .before .before .before .single .ensures .0 .size ∙ l .loop .inv .1 .size ∙ l .before .before .before .clear .ensures .frame .size ∙ l .before .before .before .before .before .before .before .restore .ensures .frame .size
 
--- src/lib.rt:527:13
 returns : tie.Need-returns Inv-loop μ-loop
-returns c = ?
+returns c =
+    let l = c .before .before .before .before .before .before in
+    let s = l .before .before .before .before .before .before .before .before .before .before .before in
+    single-failed (l .before .before .before .before .before .before .before .before .before .alone .ensures) (s .pre) (l .before .before .before .before .before .before .before .restore .ensures) (within-trans (l .before .before .before .clear .ensures .frame) (within-trans (l .loop .inv .1) (c .before .before .before .single .ensures .0)))
 
--- src/lib.rt:510:1
 same-length-2 : tie.Need-same-length-2 Inv-loop μ-loop
-same-length-2 c = ?
+same-length-2 c =
+    let l = c .before in
+    l .loop .inv .1 .size ∙ l .before .before .before .clear .ensures .frame .size ∙ l .before .before .before .before .before .before .before .restore .ensures .frame .size
 
--- src/lib.rt:510:1
 returns-2 : tie.Need-returns-2 Inv-loop μ-loop
-returns-2 c = ?
+returns-2 c =
+    let l = c .before in
+    let s = l .before .before .before .before .before .before .before .before .before .before .before in
+    single-done (l .before .before .before .before .before .before .before .before .before .alone .ensures) (s .pre) (l .before .before .before .before .before .before .before .restore .ensures) (within-trans (l .before .before .before .clear .ensures .frame) (l .loop .inv .1)) (omega arith) (l .loop .inv .2)
 
 pub distinct-spec : {M : Type 1} → statement M
 distinct-spec =
@@ -70,6 +76,7 @@ distinct-spec =
     (tie.spec
     Inv-loop
     μ-loop
+    alone-requires
     restore-requires
     clear-requires
     loop-holds

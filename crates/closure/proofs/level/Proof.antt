@@ -1,5 +1,6 @@
 -- `level` meets its contract. Assumes nothing.
 use borrow.Author.Needs.{needs}
+use mathlib.Core.Path.{refl}
 use Rattle.closure.proofs.level.Statement.{statement}
 use Rattle.closure.proofs.level.Tie as tie
 
@@ -10,7 +11,7 @@ label-requires-2 : tie.Need-label-requires-2
 label-requires-2 c κs = search needs
 
 returns : tie.Need-returns
-returns c = search needs
+returns c = rw (c .before .before .before .label .ensures, c .before .before .label2 .ensures) refl
 
 pub level-spec : {M : Type 1} → statement M
 level-spec = tie.close (tie.spec label-requires label-requires-2 returns)

@@ -6,16 +6,16 @@ use Prim.Native.Nat.{_-_, _≤_}
 use native.Mathlib.Omega.{arith}
 use denote.Ref.{now}
 use borrow.Author.Tests.{eq-eqb, ne-eqb}
-use Rattle.table.specs.Map.{nextOf}
 use Rattle.closure.specs.Chain.{seekTo, hits}
-use Rattle.closure.specs.State.{keyOf}
+use Rattle.closure.specs.State.{keyOf, nextTo}
 use Rattle.closure.proofs.seek.Statement.{statement}
 use Rattle.closure.proofs.seek.Tie as tie
 use Rattle.closure.proofs.Chain.{seek-found, seek-next, seek-none}
 use Rattle.closure.proofs.Rows.{row-readable}
+use Rattle.closure.proofs.Views.{next-is}
 
 abbrev Inv-loop : tie.InvT-loop
-Inv-loop work from x p₀ p = (p ≤ from) × (seekTo (nextOf work) (hits (keyOf work) x) p ≡ seekTo (nextOf work) (hits (keyOf work) x) from)
+Inv-loop work from x p₀ p = (p ≤ from) × (seekTo (nextTo from work) (hits (keyOf work) x) p ≡ seekTo (nextTo from work) (hits (keyOf work) x) from)
 
 abbrev μ-loop : tie.MeasureT-loop
 μ-loop work from x p₀ p = p
@@ -51,7 +51,8 @@ next-requires c κs = let s = c .before .before .before .before .before .before 
 loop-less : tie.Need-loop-less Inv-loop μ-loop
 loop-less c =
     let l = c .before .before .before .before .before in
-    rw (c .next .ensures) (omega (arith, l .before .before .pre .falls (l .loop .p - 1)))
+    let s = l .before .before in
+    rw (c .next .ensures, next-is (s .args .from) (now (s .args .work)) (l .loop .p - 1) (omega arith) (omega (arith, s .pre .low, s .pre .listed .short))) (omega (arith, s .pre .falls (l .loop .p - 1)))
 
 loop-again : tie.Need-loop-again Inv-loop μ-loop
 loop-again c =
@@ -59,7 +60,7 @@ loop-again c =
     let s = l .before .before in
     let n : keyOf (now (s .args .work)) (l .loop .p - 1) ≡ s .args .x → ⊥ =
     λ e. c .before .if1 .left (c .before .before .key .ensures ∙ rw (c .before .before .before .listed .ensures) e) in
-    rw (c .next .ensures) (
+    rw (c .next .ensures, next-is (s .args .from) (now (s .args .work)) (l .loop .p - 1) (omega arith) (omega (arith, s .pre .low, s .pre .listed .short))) (
       omega (arith, s .pre .falls (l .loop .p - 1)),
       seek-next _ (hits (keyOf (now (s .args .work))) (s .args .x)) (s .pre .falls) (l .loop .p) (omega arith) (ne-eqb _ _ n) ∙ l .loop .inv .1,
     )
@@ -69,7 +70,7 @@ returns-2 c =
     let l = c .before in
     let s = l .before .before in
     let z : l .loop .p ≡ 0 = omega arith in
-    sym (seek-none (nextOf (now (s .args .work))) (hits (keyOf (now (s .args .work))) (s .args .x)) (s .pre .falls)) ∙ (rw z at (l .loop .inv .1))
+    sym (seek-none (nextTo (s .args .from) (now (s .args .work))) (hits (keyOf (now (s .args .work))) (s .args .x)) (s .pre .falls)) ∙ (rw z at (l .loop .inv .1))
 
 pub seek-spec : {M : Type 1} → statement M
 seek-spec =
