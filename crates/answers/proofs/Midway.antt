@@ -100,7 +100,7 @@ module _ (job w room : List ℕ) (N len joins at out before : ℕ) (w′ room′
         kept = m .kept;
       }
 
-  asking-on : (w″ : List ℕ) → Within 17003 31096 w′ w″ → Asking job w″ N len joins
+  asking-on : (w″ : List ℕ) → Within 17003 32096 w′ w″ → Asking job w″ N len joins
   asking-on w″ f = record { stands = m .asking .stands; short = m .asking .short; few = m .asking .few; records = kept-records f len ∙ m .asking .records; past = kept-past f (m .asking .past) }
 
   -- A question's field goes behind the bytes that are there.

@@ -58,5 +58,5 @@ module _ {job room w : List ℕ} {N len : ℕ} (r : Ready job room w N len) {w�
           sound = t .sound f (totals (total (rw (← r .few, ← records-after) (c .classes)) (rw (← records-after) (c .idles))));
           size = rw (length-append, size, t .reached);
           front = e ∙ laid-then 0 end (t .bytes) f room room₁ (omega (arith, t .reached, t .fits)) (omega (arith, t .reached)) (t .front) ∙ laid-front (t .bytes ++ f) room;
-          kept = within-trans (within-wider 12003 31096 (omega arith) (omega arith) (c .kept)) (within-wider 12003 31096 (omega arith) (omega arith) (t .kept));
+          kept = within-trans (within-wider 12003 32096 (omega arith) (omega arith) (c .kept)) (within-wider 12003 32096 (omega arith) (omega arith) (t .kept));
         }

@@ -43,7 +43,7 @@ pub record Answered (w room : List ℕ) (N len before out : ℕ) (q : Item) (w�
   pub right : Answers N (recordsIn len w) before q field
   pub front : room′ ≡ laid out field room
   pub reached : end ≡ out + length field
-  pub kept : Within 17003 31096 w w′
+  pub kept : Within 17003 32096 w w′
 
 -- What meeting an item leads to: a record is passed and a question answered.
 pub data Stepped (w room : List ℕ) (N len at out before : ℕ) : Item → ℕ → ℕ → ℕ → List ℕ → List ℕ → Type 0 where
@@ -83,7 +83,7 @@ pub record Midway (job w room : List ℕ) (N len joins at out before : ℕ) (w�
   pub reached : out ≡ length bytes
   pub front : room′ ≡ laid 0 bytes room
   pub fits : out + neededRoom N before rest ≤ length room
-  pub kept : Within 17003 31096 w w′
+  pub kept : Within 17003 32096 w w′
 
 -- All questions answered: the totals are left to write, at the end of what stands in the room.
 pub record Told (job w room : List ℕ) (N len joins : ℕ) (w′ room′ : List ℕ) (end : ℕ) : Type 0 where
@@ -92,7 +92,7 @@ pub record Told (job w room : List ℕ) (N len joins : ℕ) (w′ room′ : List
   pub reached : end ≡ length bytes
   pub front : room′ ≡ laid 0 bytes room
   pub fits : end + 7 ≤ length room
-  pub kept : Within 17003 31096 w w′
+  pub kept : Within 17003 32096 w w′
 
 -- An accepted job of N tags whose len records stand in the table's columns, and a room that is as large as needed.
 pub record Ready (job room w : List ℕ) (N len : ℕ) : Type 0 where
@@ -109,4 +109,4 @@ pub record Responded (job room w : List ℕ) (N : ℕ) (room′ w′ : List ℕ)
   pub sound : Sound N (recordsOf (itemsIn job)) 0 (itemsIn job) bytes
   pub size : n ≡ length bytes
   pub front : room′ ≡ bytes ++ drop (length bytes) room
-  pub kept : Within 12003 31096 w w′
+  pub kept : Within 12003 32096 w w′

@@ -3,6 +3,7 @@ pub mod Loops
 pub mod Rows
 pub mod Joining
 pub mod Views
+pub mod Saving
 pub mod Uniting
 pub mod Steps
 pub mod Moments

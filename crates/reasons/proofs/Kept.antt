@@ -75,8 +75,8 @@ module _ {e : ℕ} {w w′ : List ℕ} (f : Within 17003 e w w′) where
   pub kept-holds : {a : ℕ} → Holds w a → Holds w′ a
   kept-holds h = record { tags = h .tags; len = h .len; joins = h .joins; past = kept-past (h .past); reach = h .reach }
 
--- Writing in the list leaves the marks.
-pub kept-marks : {w w′ : List ℕ} → Within 17003 21003 w w′ → marked w′ ≡ marked w
+-- Writing in the list and in the notes leaves the marks.
+pub kept-marks : {w w′ : List ℕ} → Within 17003 30096 w w′ → marked w′ ≡ marked w
 kept-marks f = fun-ext (λ a. ap (λ (m : ℕ → ℕ). eqb (m a) 1) (seen-within 30096 1000 (λ x. 0) f (inr (omega arith))))
 
 -- The links do not ask how many joins there are.

@@ -4,15 +4,16 @@ use Prim.Native.Nat.{ℕ, suc, _+_, _-_, _≤_, _<_}
 use native.Mathlib.Omega.{arith}
 use native.Mathlib.Decide.{ℕ-discrete, decLt}
 use mathlib.Core.Path.{_≡_, refl, sym, _∙_, ap}
-use mathlib.Core.Logic.{_≢_, _⊎_, inl, inr}
+use mathlib.Core.Logic.{_≢_, _↔_, _⊎_, inl, inr}
 use mathlib.Core.Bool.{Bool, true, false}
 use mathlib.Core.List.{List, [], _∷_, List·Memᴰ, List·Memᴰ·head, List·Memᴰ·append-cases, List·Memᴰ·eq-of-singleton, List·Memᴰ·not-nil, Memᴰ·append-left, Memᴰ·append-right}
 use lib.ListN.{length, set}
-use Rattle.meaning.specs.Following.{Follows, Those}
+use Rattle.meaning.specs.Following.{Follows, Those, Only}
 use Rattle.meaning.proofs.Close.{more-of}
 use Rattle.table.specs.Map.{listOf, listIn, recordsIn, Within}
 use Rattle.table.proofs.Frame.{seen-within, gather-same, gather-in, in-gather, within-refl, within-trans, within-wider, within-set}
-use Rattle.closure.specs.Closing.{Listed, Entailing}
+use Rattle.closure.specs.Closing.{Listed, Saved}
+use Rattle.closure.proofs.Saving.{saved-more, saved-within}
 use Rattle.reasons.specs.Listing.{waitingIn}
 use Rattle.reasons.specs.Trimming.{Copied, Left, Trying, Tried, Pruned, Followed}
 use Rattle.reasons.proofs.Kept.{kept-records, kept-loaded}
@@ -59,59 +60,84 @@ left-same : {kept : ℕ} {w w′ : List ℕ} → Agreeing kept w w′ → (i n k
 left-same h i n k (inl m) = inl (rw (agree-list h) m)
 left-same h i n k (inr m) = inr (m .0, m .1, m .2, h .at (2000 + m .0) (inr (omega arith)) ∙ m .3)
 
-left-fewer : (w : List ℕ) (kept i n k : ℕ) → Left w kept (suc i) n k → Left w kept i n k
-left-fewer w kept i n k (inl m) = inl m
-left-fewer w kept i n k (inr m) = inr (m .0, omega (arith, m .1), m .2, m .3)
+left-fewer : (w : List ℕ) (kept i j n k : ℕ) → i ≤ j → Left w kept j n k → Left w kept i n k
+left-fewer w kept i j n k l (inl m) = inl m
+left-fewer w kept i j n k l (inr m) = inr (m .0, omega (arith, m .1), m .2, m .3)
 
 -- All but the one at i stay when that is taken out.
-left-other : (w : List ℕ) (kept i n k : ℕ) → k ≢ listOf w (2000 + i) → Left w kept i n k → Left w kept (suc i) n k
-left-other w kept i n k d (inl m) = inl m
-left-other w kept i n k d (inr m) = go (ℕ-discrete (m .0) i)
+left-other : (w : List ℕ) (kept i j n k : ℕ) → j ≡ suc i → k ≢ listOf w (2000 + i) → Left w kept i n k → Left w kept j n k
+left-other w kept i j n k e d (inl m) = inl m
+left-other w kept i j n k e d (inr m) = go (ℕ-discrete (m .0) i)
   where
-    go : Dec (m .0 ≡ i) → Left w kept (suc i) n k
-    go (yes q) = absurd (d (sym (m .3) ∙ ap (λ (j : ℕ). listOf w (2000 + j)) q))
+    go : Dec (m .0 ≡ i) → Left w kept j n k
+    go (yes q) = absurd (d (sym (m .3) ∙ ap (λ (x : ℕ). listOf w (2000 + x)) q))
     go (no q) = inr (m .0, omega (arith, m .1), m .2, m .3)
 
-module _ {N len s t kept i n rest : ℕ} {w w₁ : List ℕ} (T : Trying N len s t w kept i n) (some : i < n) (count : rest ≡ n - (i + 1)) (c : Copied w w₁ (2000 + (i + 1)) kept rest) where
-  -- The list that is closed holds what is left without the one at i.
-  list-left : (k : ℕ) → List·Memᴰ k (listIn (kept + rest) w₁) → Left w kept (suc i) n k
-  list-left k m = go (decLt (j .0) kept)
+-- What was tried, with what is tried next.
+pub tried-start : {e N len s t kept i n : ℕ} {w : List ℕ} → Trying N len s t w kept i n → Tried e N len s t w w kept i i n kept
+tried-start {w = w} T = record { kept-in = within-refl w; fewer = λ k m. m; stays = λ m k l h. h; trying = T }
+
+pub tried-more : {e N len s t kept i j l n kept₁ kept₂ : ℕ} {w w₁ w₂ : List ℕ} → j ≤ l → Tried e N len s t w w₁ kept i j n kept₁ → Tried e N len s t w₁ w₂ kept₁ j l n kept₂
+    → Tried e N len s t w w₂ kept i l n kept₂
+tried-more o g h = record {
+  kept-in = within-trans (g .kept-in) (h .kept-in);
+  fewer = λ k m. g .fewer k (h .fewer k m);
+  stays = λ m k x y. h .stays m k x (g .stays m k (omega arith) y);
+  trying = h .trying;
+}
+
+pub tried-wider : {e e′ N len s t kept i j n kept′ : ℕ} {w w′ : List ℕ} → e ≤ e′ → Tried e N len s t w w′ kept i j n kept′ → Tried e′ N len s t w w′ kept i j n kept′
+tried-wider {e′ = e′} l h = record { kept-in = within-wider 17003 e′ (omega arith) l (h .kept-in); fewer = h .fewer; stays = h .stays; trying = h .trying }
+
+-- The labels that are saved follow from what will be left, and still do.
+pub tried-saved : {N len s t kept i j m n joins kept′ : ℕ} {w w′ : List ℕ} → Tried 30096 N len s t w w′ kept i j n kept′ → j < m → Saved N len (Left w kept m n) w joins
+    → Saved N len (Left w′ kept′ (j + 1) n) w′ joins
+tried-saved {j = j} {m = m} {n = n} {kept′ = kept′} {w′ = w′} h l s =
+    saved-within (within-wider 12003 30096 (omega arith) (omega arith) (h .kept-in)) (saved-more (λ k x. left-fewer w′ kept′ (j + 1) m n k (omega arith) (h .stays m k (omega arith) x)) s)
+
+-- Those from i up to j are tried: what is left without them is copied, and closed.
+module _ {N len s t kept i j n rest : ℕ} {w w₁ : List ℕ} (T : Trying N len s t w kept i n) (from : i ≤ j) (to : j ≤ n) (count : rest ≡ n - j) (c : Copied w w₁ (2000 + j) kept rest) where
+  list-left : (k : ℕ) → List·Memᴰ k (listIn (kept + rest) w₁) → Left w kept j n k
+  list-left k m = go (decLt (x .0) kept)
     where
-      j : (x : ℕ) × (x < kept + rest) × (listOf w₁ x ≡ k)
-      j = in-gather (listOf w₁) (kept + rest) k m
+      x : (y : ℕ) × (y < kept + rest) × (listOf w₁ y ≡ k)
+      x = in-gather (listOf w₁) (kept + rest) k m
 
-      go : Dec (j .0 < kept) → Left w kept (suc i) n k
-      go (yes l) = inl (rw (← j .2, c .same (j .0) (inl l)) (gather-in (listOf w) kept (j .0) l))
+      go : Dec (x .0 < kept) → Left w kept j n k
+      go (yes l) = inl (rw (← x .2, c .same (x .0) (inl l)) (gather-in (listOf w) kept (x .0) l))
       go (no l) =
-          let x : ℕ = j .0 - kept in
-          let b : x < rest = omega (arith, j .1) in
-          let e : kept + x ≡ j .0 = omega arith in
-          let e′ : 2000 + (i + 1) + x ≡ 2000 + (suc i + x) = omega arith in
-          inr (suc i + x, omega arith, omega arith, sym (ap (listOf w) e′) ∙ sym (c .copy x b) ∙ ap (listOf w₁) e ∙ j .2)
+          let y : ℕ = x .0 - kept in
+          let b : y < rest = omega (arith, x .1) in
+          let e : kept + y ≡ x .0 = omega arith in
+          let e′ : 2000 + j + y ≡ 2000 + (j + y) = omega arith in
+          inr (j + y, omega arith, omega arith, sym (ap (listOf w) e′) ∙ sym (c .copy y b) ∙ ap (listOf w₁) e ∙ x .2)
 
-  left-list : (k : ℕ) → Left w kept (suc i) n k → List·Memᴰ k (listIn (kept + rest) w₁)
+  left-list : (k : ℕ) → Left w kept j n k → List·Memᴰ k (listIn (kept + rest) w₁)
   left-list k (inl m) =
-      let j = in-gather (listOf w) kept k m in
-      rw (← j .2, ← c .same (j .0) (inl (j .1))) (gather-in (listOf w₁) (kept + rest) (j .0) (omega (arith, j .1)))
+      let x = in-gather (listOf w) kept k m in
+      rw (← x .2, ← c .same (x .0) (inl (x .1))) (gather-in (listOf w₁) (kept + rest) (x .0) (omega (arith, x .1)))
   left-list k (inr m) =
-      let x : ℕ = m .0 - (i + 1) in
-      let b : x < rest = omega (arith, m .1, m .2) in
-      let e : 2000 + (i + 1) + x ≡ 2000 + m .0 = omega (arith, m .1) in
-      rw (← m .3, ← e, ← c .copy x b) (gather-in (listOf w₁) (kept + rest) (kept + x) (omega arith))
+      let y : ℕ = m .0 - j in
+      let b : y < rest = omega (arith, m .1, m .2) in
+      let e : 2000 + j + y ≡ 2000 + m .0 = omega (arith, m .1) in
+      rw (← m .3, ← e, ← c .copy y b) (gather-in (listOf w₁) (kept + rest) (kept + y) (omega arith))
 
   pub tried-listed : Listed N len (kept + rest) w₁
   tried-listed = record {
     loaded = kept-loaded (c .kept) (T .loaded);
     short = omega (arith, T .few, T .short);
-    named = λ j l. T .named (listOf w₁ j) (left-fewer w kept i n (listOf w₁ j) (list-left (listOf w₁ j) (gather-in (listOf w₁) (kept + rest) j l)));
+    named = λ x l. T .named (listOf w₁ x) (left-fewer w kept i j n (listOf w₁ x) from (list-left (listOf w₁ x) (gather-in (listOf w₁) (kept + rest) x l)));
   }
 
-  module _ {w₂ : List ℕ} {answer : Bool} (E : Entailing N len (kept + rest) s t w₁ w₂ answer) where
-    whole : Within 17003 30096 w w₂
-    whole = within-trans (within-wider 17003 30096 (omega arith) (omega arith) (c .kept)) (within-wider 17003 30096 (omega arith) (omega arith) (E .kept))
+  pub tried-held : {joins : ℕ} → Saved N len (Left w kept j n) w joins → Saved N len (λ k. List·Memᴰ k (listIn (kept + rest) w₁)) w₁ joins
+  tried-held h = saved-within (within-wider 12003 30096 (omega arith) (omega arith) (c .kept)) (saved-more left-list h)
+
+  module _ {e : ℕ} {w₂ : List ℕ} {answer : Bool} (scratch : 21003 ≤ e) (f : Within 21003 e w₁ w₂) (exact : (answer ≡ true) ↔ Follows (Only (recordsIn len w₁) (listIn (kept + rest) w₁)) s t) where
+    pub whole : Within 17003 e w w₂
+    whole = within-trans (within-wider 17003 e (omega arith) scratch (c .kept)) (within-wider 17003 e (omega arith) (omega arith) f)
 
     agree : Agreeing kept w w₂
-    agree = record { at = λ x o. ap (λ (f : ℕ → ℕ). f x) (seen-within 17003 4000 (λ y. 0) (E .kept) (inl (omega arith))) ∙ c .same x (out x o) }
+    agree = record { at = λ x o. ap (λ (g : ℕ → ℕ). g x) (seen-within 17003 4000 (λ y. 0) f (inl (omega arith))) ∙ c .same x (out x o) }
       where
         out : (x : ℕ) → (x < kept) ⊎ (2000 ≤ x) → (x < kept) ⊎ (kept + rest ≤ x)
         out x (inl l) = inl l
@@ -123,29 +149,52 @@ module _ {N len s t kept i n rest : ℕ} {w w₁ : List ℕ} (T : Trying N len s
     records₂ : recordsIn len w₂ ≡ recordsIn len w
     records₂ = kept-records whole len
 
-    -- The others suffice: it goes.
-    pub tried-drop : answer ≡ true → Tried N len s t w w₂ kept i n kept
+    -- They suffice: the others go.
+    pub tried-drop : answer ≡ true → Tried e N len s t w w₂ kept i j n kept
     tried-drop q = record {
       kept-in = whole;
       fewer = fewer;
+      stays = λ m k l h. left-same agree m n k h;
       trying = record {
         loaded = kept-loaded whole (T .loaded);
         s-tag = T .s-tag;
         t-tag = T .t-tag;
         few = omega (arith, T .few);
-        on = omega arith;
+        on = to;
         short = T .short;
         named = λ k m. T .named k (fewer k m);
-        entails = rw records₂ (more-of (λ k m. left-same agree (suc i) n k (list-left k m)) (rw records₁ at (E .exact .0 q)));
-        unspared = λ m j f. T .unspared m (rw (agree-list agree) at j) (more-of (λ k x. (fewer k (x .0), x .1)) (rw records₂ at f));
+        entails = rw records₂ (more-of (λ k m. left-same agree j n k (list-left k m)) (rw records₁ at (exact .0 q)));
+        unspared = λ m x h. T .unspared m (rw (agree-list agree) at x) (more-of (λ k y. (fewer k (y .0), y .1)) (rw records₂ at h));
       };
     }
       where
-        fewer : (k : ℕ) → Left w₂ kept (suc i) n k → Left w kept i n k
-        fewer k m = left-fewer w kept i n k (left-same (agree-flip agree) (suc i) n k m)
+        fewer : (k : ℕ) → Left w₂ kept j n k → Left w kept i n k
+        fewer k m = left-fewer w kept i j n k from (left-same (agree-flip agree) j n k m)
 
-    -- They do not: it stays.
-    module _ {w₃ : List ℕ} {one : ℕ} (take : one ≡ listOf w₂ (2000 + i)) (put : w₃ ≡ set w₂ (17003 + kept) one) (q : answer ≡ false) where
+    -- They do not, and the others are many: nothing was tried yet.
+    pub tried-again : Tried e N len s t w w₂ kept i i n kept
+    tried-again = record {
+      kept-in = whole;
+      fewer = λ k m. left-same (agree-flip agree) i n k m;
+      stays = λ m k l h. left-same agree m n k h;
+      trying = record {
+        loaded = kept-loaded whole (T .loaded);
+        s-tag = T .s-tag;
+        t-tag = T .t-tag;
+        few = T .few;
+        on = T .on;
+        short = T .short;
+        named = λ k m. T .named k (left-same (agree-flip agree) i n k m);
+        entails = rw records₂ (more-of (λ k m. left-same agree i n k m) (T .entails));
+        unspared = λ m x h. T .unspared m (rw (agree-list agree) at x) (more-of (λ k y. (left-same (agree-flip agree) i n k (y .0), y .1)) (rw records₂ at h));
+      };
+    }
+
+    pub tried-saving : {joins : ℕ} → Saved N len (λ k. List·Memᴰ k (listIn (kept + rest) w₁)) w₂ joins → Saved N len (Left w₂ kept j n) w₂ joins
+    tried-saving h = saved-more (λ k m. left-same agree j n k (list-left k m)) h
+
+    -- They do not, and the other is one: it stays.
+    module _ {w₃ : List ℕ} {one : ℕ} (single : j ≡ suc i) (take : one ≡ listOf w₂ (2000 + i)) (put : w₃ ≡ set w₂ (17003 + kept) one) (q : answer ≡ false) where
       small : kept < 2000
       small = omega (arith, T .few, T .short)
 
@@ -165,59 +214,63 @@ module _ {N len s t kept i n rest : ℕ} {w w₁ : List ℕ} (T : Trying N len s
           apart x (inl l) z = omega arith
           apart x (inr l) z = omega (arith, small)
 
-      whole₃ : Within 17003 30096 w w₃
-      whole₃ = within-trans whole (rw put (within-set 17003 30096 w₂ (17003 + kept) one (omega arith) (omega (arith, small))))
+      whole₃ : Within 17003 e w w₃
+      whole₃ = within-trans whole (rw put (within-set 17003 e w₂ (17003 + kept) one (omega arith) (omega (arith, small))))
 
       records₃ : recordsIn len w₃ ≡ recordsIn len w
       records₃ = kept-records whole₃ len
 
-      there : (k : ℕ) → Left w₃ (suc kept) (suc i) n k → Left w kept i n k
+      there : (k : ℕ) → Left w₃ (suc kept) j n k → Left w kept i n k
       there k (inl m) = elim (List·Memᴰ·append-cases (listIn kept w₃) m) [
         | inl h ↦ inl (rw (agree-list agree₃) at h)
-        | inr h ↦ inr (i, omega arith, some, sym is ∙ sym here ∙ sym (List·Memᴰ·eq-of-singleton h))
+        | inr h ↦ inr (i, omega arith, omega arith, sym is ∙ sym here ∙ sym (List·Memᴰ·eq-of-singleton h))
       ]
-      there k (inr m) = left-fewer w kept i n k (left-same (agree-flip agree₃) (suc i) n k (inr m))
+      there k (inr m) = left-fewer w kept i j n k from (left-same (agree-flip agree₃) j n k (inr m))
 
-      back : (k : ℕ) → Left w kept i n k → Left w₃ (suc kept) (suc i) n k
+      grown : (m k : ℕ) → Left w kept m n k → Left w₃ (suc kept) m n k
+      grown m k h = elim (left-same agree₃ m n k h) [
+        | inl x ↦ inl (Memᴰ·append-left (listOf w₃ kept ∷ []) x)
+        | inr x ↦ inr x
+      ]
+
+      back : (k : ℕ) → Left w kept i n k → Left w₃ (suc kept) j n k
       back k h = go (ℕ-discrete k one)
         where
-          go : Dec (k ≡ one) → Left w₃ (suc kept) (suc i) n k
+          go : Dec (k ≡ one) → Left w₃ (suc kept) j n k
           go (yes z) = inl (Memᴰ·append-right (listIn kept w₃) (List·Memᴰ·head (z ∙ sym here)))
-          go (no z) = elim (left-same agree₃ (suc i) n k (left-other w kept i n k (λ y. z (y ∙ sym is)) h)) [
-            | inl m ↦ inl (Memᴰ·append-left (listOf w₃ kept ∷ []) m)
-            | inr m ↦ inr m
-          ]
+          go (no z) = grown j k (left-other w kept i j n k single (λ y. z (y ∙ sym is)) h)
 
       needed : Follows (Those (recordsIn len w) (λ k. Left w kept i n k × (k ≢ one))) s t → ⊥
-      needed f =
-          let z : true ≡ false = sym (E .exact .1 (rw records₁ (more-of (λ k x. left-list k (left-other w kept i n k (λ y. x .1 (y ∙ sym is)) (x .0))) f))) ∙ q in
+      needed h =
+          let z : true ≡ false = sym (exact .1 (rw records₁ (more-of (λ k x. left-list k (left-other w kept i j n k single (λ y. x .1 (y ∙ sym is)) (x .0))) h))) ∙ q in
           let y : _≡_ {A = ℕ} 0 1 = cc in
           omega arith
 
-      pub tried-keep : Tried N len s t w w₃ kept i n (suc kept)
+      pub tried-keep : Tried e N len s t w w₃ kept i j n (suc kept)
       tried-keep = record {
         kept-in = whole₃;
         fewer = there;
+        stays = λ m k l h. grown m k h;
         trying = record {
           loaded = kept-loaded whole₃ (T .loaded);
           s-tag = T .s-tag;
           t-tag = T .t-tag;
           few = omega (arith, T .few);
-          on = omega arith;
+          on = to;
           short = T .short;
           named = λ k m. T .named k (there k m);
           entails = rw records₃ (more-of back (T .entails));
-          unspared = λ m j f. unspared m (List·Memᴰ·append-cases (listIn kept w₃) j) (more-of (λ k x. (there k (x .0), x .1)) (rw records₃ at f));
+          unspared = λ m x h. unspared m (List·Memᴰ·append-cases (listIn kept w₃) x) (more-of (λ k y. (there k (y .0), y .1)) (rw records₃ at h));
         };
       }
         where
           unspared : (m : ℕ) → List·Memᴰ m (listIn kept w₃) ⊎ List·Memᴰ m (listOf w₃ kept ∷ []) → Follows (Those (recordsIn len w) (λ k. Left w kept i n k × (k ≢ m))) s t → ⊥
-          unspared m (inl j) f = T .unspared m (rw (agree-list agree₃) at j) f
-          unspared m (inr j) f = let z : m ≡ one = List·Memᴰ·eq-of-singleton j ∙ here in needed (rw z at f)
+          unspared m (inl x) h = T .unspared m (rw (agree-list agree₃) at x) h
+          unspared m (inr x) h = let z : m ≡ one = List·Memᴰ·eq-of-singleton x ∙ here in needed (rw z at h)
 
 -- From the first that waits to the last.
 pub record Pruning (N len s t : ℕ) (w w′ : List ℕ) (n kept i : ℕ) : Type 0 where
-  pub kept-in : Within 17003 30096 w w′
+  pub kept-in : Within 17003 32096 w w′
   pub fewer : (k : ℕ) → Left w′ kept i n k → List·Memᴰ k (waitingIn n w)
   pub trying : Trying N len s t w′ kept i n
 
@@ -242,7 +295,7 @@ pruning-start {n = n} {w = w} f = record {
   };
 }
 
-pub pruning-more : {N len s t n kept i r : ℕ} {w w₁ w₂ : List ℕ} → Pruning N len s t w w₁ n kept i → Tried N len s t w₁ w₂ kept i n r → Pruning N len s t w w₂ n r (suc i)
+pub pruning-more : {N len s t n kept i j r : ℕ} {w w₁ w₂ : List ℕ} → Pruning N len s t w w₁ n kept i → Tried 32096 N len s t w₁ w₂ kept i j n r → Pruning N len s t w w₂ n r j
 pruning-more p h = record { kept-in = within-trans (p .kept-in) (h .kept-in); fewer = λ k m. p .fewer k (h .fewer k m); trying = h .trying }
 
 pub pruning-end : {N len s t n kept : ℕ} {w w′ : List ℕ} → Pruning N len s t w w′ n kept n → Pruned N len s t w w′ n kept

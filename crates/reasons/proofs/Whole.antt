@@ -90,15 +90,15 @@ small-records {N} {len} {w} h i l =
     let k : i < len = rw (length-gather (λ j. recAt w (suc j)) len) at l in
     rw (getD-gather (λ j. recAt w (suc j)) len i (eq 0 0) k) (h .small i k)
 
-wide : {a e : ℕ} {w w′ : List ℕ} → 17003 ≤ a → e ≤ 31096 → Within a e w w′ → Within 17003 31096 w w′
-wide l m f = within-wider 17003 31096 l m f
+wide : {a e : ℕ} {w w′ : List ℕ} → 17003 ≤ a → e ≤ 32096 → Within a e w w′ → Within 17003 32096 w w′
+wide l m f = within-wider 17003 32096 l m f
 
 module _ {N len n s t b : ℕ} {w : List ℕ} (J : Joining N len n s t b w) where
   few : n ≤ 999
   few = omega (arith, J .past .low, J .past .loaded .few)
 
   module _ {w₁ : List ℕ} (U : Unmarked w w₁ n) where
-    frame₁ : Within 17003 31096 w w₁
+    frame₁ : Within 17003 32096 w w₁
     frame₁ = wide (omega arith) (omega arith) (U .kept)
 
     pub asks-trace : Together w₁ s t (suc b)
@@ -110,7 +110,7 @@ module _ {N len n s t b : ℕ} {w : List ℕ} (J : Joining N len n s t b w) wher
     }
 
     module _ {w₂ : List ℕ} (X : Traced w₁ w₂ (suc b) s t (tags s t)) where
-      frame₂ : Within 17003 31096 w w₂
+      frame₂ : Within 17003 32096 w w₂
       frame₂ = within-trans frame₁ (wide (omega arith) (omega arith) (X .kept))
 
       pub asks-list : Holds w₂ (suc b)
@@ -120,7 +120,7 @@ module _ {N len n s t b : ℕ} {w : List ℕ} (J : Joining N len n s t b w) wher
       walked = rw (kept-records frame₁ len, kept-joins frame₁) at (X .walked N len n (kept-past frame₁ (J .past)) (J .join) (unmarked-supported (recordsIn len w₁) (joinAt w₁) U))
 
       module _ {w₃ : List ℕ} {m : ℕ} (G : Gathered w₂ w₃ (suc b) m) where
-        frame₃ : Within 17003 31096 w w₃
+        frame₃ : Within 17003 32096 w w₃
         frame₃ = within-trans frame₂ (wide (omega arith) (omega arith) (G .kept))
 
         same : (k : ℕ) → List·Memᴰ k (used (joinAt w) (marked w₂) (suc b)) ↔ List·Memᴰ k (waitingIn m w₃)
@@ -141,7 +141,7 @@ module _ {N len n s t b : ℕ} {w : List ℕ} (J : Joining N len n s t b w) wher
         }
 
         module _ {w₄ : List ℕ} {kept : ℕ} (Q : Pruned N len s t w₃ w₄ m kept) where
-          frame₄ : Within 17003 31096 w w₄
+          frame₄ : Within 17003 32096 w w₄
           frame₄ = within-trans frame₃ (wide (omega arith) (omega arith) (Q .kept-in))
 
           pub asks-rising : Numbered w₄ len kept

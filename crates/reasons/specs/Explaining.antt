@@ -27,7 +27,7 @@ Says N rs before s t w Apart = Follows (UpTo rs before) s t → ⊥
 
 -- From w to w′ the question was answered: the past stays, so that the next may be asked.
 pub record Explained (N len joins before s t : ℕ) (w w′ : List ℕ) (answer : Answer) : Type 0 where
-  pub kept : Within 17003 31096 w w′
+  pub kept : Within 17003 32096 w w′
   pub past : Past N len w′ joins
   pub says : Says N (recordsIn len w) before s t w′ answer
 
@@ -42,5 +42,5 @@ pub record Joining (N len joins s t b : ℕ) (w : List ℕ) : Type 0 where
   pub met : Met w s t b
 
 pub record Reasoned (N len s t b : ℕ) (w w′ : List ℕ) (c : ℕ) : Type 0 where
-  pub kept : Within 17003 31096 w w′
+  pub kept : Within 17003 32096 w w′
   pub reason : Reason N (recordsIn len w) (whenOf w b) s t (listIn c w′)

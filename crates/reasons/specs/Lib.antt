@@ -1,5 +1,6 @@
 pub mod Meeting
 pub mod Tracing
+pub mod Notes
 pub mod Listing
 pub mod Trimming
 pub mod Comparing

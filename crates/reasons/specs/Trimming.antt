@@ -1,7 +1,7 @@
 -- Taking out the spare records: each is tried once, and stays only if the others do not make s and t equal. Document 01, "Reasons":
 -- none can be spared.
 -- Assumes nothing.
-use Prim.Native.Nat.{ℕ, suc, _+_, _≤_, _<_}
+use Prim.Native.Nat.{ℕ, _+_, _≤_, _<_}
 use mathlib.Core.Path.{_≡_}
 use mathlib.Core.Logic.{_≢_, _⊎_}
 use mathlib.Core.List.{List, List·Memᴰ}
@@ -31,16 +31,18 @@ pub record Trying (N len s t : ℕ) (w : List ℕ) (kept i n : ℕ) : Type 0 whe
   pub entails : Follows (Those (recordsIn len w) (Left w kept i n)) s t
   pub unspared : (m : ℕ) → List·Memᴰ m (listIn kept w) → Follows (Those (recordsIn len w) (λ k. Left w kept i n k × (k ≢ m))) s t → ⊥
 
--- From w to w′ the one at i was tried: nothing came to what is left.
-pub record Tried (N len s t : ℕ) (w w′ : List ℕ) (kept i n kept′ : ℕ) : Type 0 where
-  pub kept-in : Within 17003 30096 w w′
-  pub fewer : (k : ℕ) → Left w′ kept′ (suc i) n k → Left w kept i n k
-  pub trying : Trying N len s t w′ kept′ (suc i) n
+-- From w to w′ those from i up to j were tried, and no number from e on was written: nothing came to what is left, and of what the
+-- next ones leave nothing went.
+pub record Tried (e N len s t : ℕ) (w w′ : List ℕ) (kept i j n kept′ : ℕ) : Type 0 where
+  pub kept-in : Within 17003 e w w′
+  pub fewer : (k : ℕ) → Left w′ kept′ j n k → Left w kept i n k
+  pub stays : (m k : ℕ) → j ≤ m → Left w kept m n k → Left w′ kept′ m n k
+  pub trying : Trying N len s t w′ kept′ j n
 
 -- From w to w′ all n that waited were tried: the first `kept` of the list are some of them, they make s and t equal, and none of
 -- them can be spared.
 pub record Pruned (N len s t : ℕ) (w w′ : List ℕ) (n kept : ℕ) : Type 0 where
-  pub kept-in : Within 17003 30096 w w′
+  pub kept-in : Within 17003 32096 w w′
   pub few : kept ≤ n
   pub fewer : (k : ℕ) → List·Memᴰ k (listIn kept w′) → List·Memᴰ k (waitingIn n w)
   pub entails : Follows (Only (recordsIn len w′) (listIn kept w′)) s t

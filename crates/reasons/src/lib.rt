@@ -7,6 +7,7 @@ use meaning::Tag;
 pub mod comparing;
 pub mod listing;
 pub mod meeting;
+pub mod notes;
 pub mod rising;
 pub mod tracing;
 pub mod trimming;

@@ -229,6 +229,6 @@ turned-done {a = a} (done {answer = b} v) e = let z : b ≡ a = cc in rw (← z)
 
 -- What is known at each turn of the loop.
 pub record Judging (job report w₀ w : List ℕ) (c : Closed) (s : Stand) : Type 0 where
-  pub kept : Within 17003 31096 w₀ w
+  pub kept : Within 17003 32096 w₀ w
   pub judgeable : Judgeable job w (c .size) (c .len) (c .joins) (c .idle)
   pub going : Going job report (c .size) s

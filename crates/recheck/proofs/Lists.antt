@@ -186,7 +186,7 @@ listed-kept {w} {w′} {N} {len} {e} {n} f h l = record {
 -- Leaving out one number after the other, from the last place down: the list is the same set, the places below i are as they were, and
 -- no number from place i on can be spared.
 pub record Leaving (w₀ w : List ℕ) (q : Question) (n i : ℕ) : Type 0 where
-  pub kept : Within 17003 31096 w₀ w
+  pub kept : Within 17003 32096 w₀ w
   pub named : Named w q n
   pub same : (x : ℕ) → List·Memᴰ x (listIn n w₀) ↔ List·Memᴰ x (listIn n w)
   pub front : (x : ℕ) → x < i → listOf w x ≡ listOf w₀ x
@@ -266,12 +266,12 @@ module _ {w w′ : List ℕ} {N len n s t : ℕ} {answer : Bool} (h : Entailing 
   pub list-same : listOf w′ ≡ listOf w
   list-same = seen-within 17003 4000 (λ x. 0) (h .kept) (inl (omega arith))
 
-  pub entailing-kept : Within 17003 31096 w w′
-  entailing-kept = within-wider 17003 31096 (omega arith) (omega arith) (h .kept)
+  pub entailing-kept : Within 17003 32096 w w′
+  entailing-kept = within-wider 17003 32096 (omega arith) (omega arith) (h .kept)
 
 pub spared : {w w′ w″ : List ℕ} {q : Question} {n i : ℕ} {answer : Bool} → Swapped i (n - 1) w w′ → Entailing (q .size) (q .len) (n - 1) (q .s .0) (q .t .0) w′ w″ answer → Sparing w w″ q n i answer
 spared {w} {w′} {w″} {q} {n} {i} {answer} s h = record {
-  kept = within-trans (within-wider 17003 31096 (omega arith) (omega arith) (s .kept)) (entailing-kept h);
+  kept = within-trans (within-wider 17003 32096 (omega arith) (omega arith) (s .kept)) (entailing-kept h);
   swap = rw (list-same h) (s .swap);
   exact = rw (list-same h, ← kept-records (s .kept) (q .len)) (h .exact);
 }
@@ -339,6 +339,6 @@ pub arranged-serving : {w w′ w″ : List ℕ} (q : Question) {n : ℕ} {answer
 arranged-serving {w} {w′} {w″} q {n} {answer} h d =
     let x : (answer ≡ true) ↔ Serving (recordsIn (q .len) w) (q .s .0) (q .t .0) (listIn n w′) = rw (kept-records (h .kept) (q .len)) at (d .exact) in
     record {
-      kept = within-trans (within-wider 17003 31096 (omega arith) (omega arith) (h .kept)) (d .kept);
+      kept = within-trans (within-wider 17003 32096 (omega arith) (omega arith) (h .kept)) (d .kept);
       exact = (λ e. serving-same (λ y. (h .same y .1, h .same y .0)) (x .0 e), λ s. x .1 (serving-same (h .same) s));
     }

@@ -141,8 +141,8 @@ module _ (w report : List ℕ) (at bytes : ℕ) (q : Question) where
     list-is r = numbers-one (r .list) (listIn (bytes / 2) w′) (holds-one report at (numbers (r .list)) (numbers (listIn (bytes / 2) w′))
         (omega (arith, length-numbers (r .list), length-numbers (listIn (bytes / 2) w′), length-gather (listOf w′) (bytes / 2), r .all)) (r .stand) (read .read))
 
-    wide : Within 17003 31096 w w′
-    wide = within-wider 17003 31096 (omega arith) (omega arith) (read .kept)
+    wide : Within 17003 32096 w w′
+    wide = within-wider 17003 32096 (omega arith) (omega arith) (read .kept)
 
     pub reason-falls : (Rising (listIn (bytes / 2) w′) k → ⊥) → Deciding (Reasoned w report at bytes q) w w′ false
     reason-falls h = record { kept = wide; exact = is-not (λ r. h (rw (list-is r) at (reason-rising (K .first) (r .reason) (ℕ-discrete (q .s .0) (q .t .0))))) }
@@ -212,13 +212,13 @@ module _ (w report : List ℕ) (at : ℕ) (q : Question) {k : ℕ} (K : Known w 
     pub because-other : kind ≢ 132 → Explained w w report at q Wrong
     because-other h = record { kept = within-refl w; right = wrong (λ x. let r = reason-found x in h (fields-one report at kind 132 (f .body) (numbers (r .0)) (f .holds) (r .2) .0)) }
 
-    pub because-right : {w′ : List ℕ} → kind ≡ 132 → Within 17003 31096 w w′ → Reasoned w report (at + 3) size q → Explained w w′ report at q (To (at + 3 + size))
+    pub because-right : {w′ : List ℕ} → kind ≡ 132 → Within 17003 32096 w w′ → Reasoned w report (at + 3) size q → Explained w w′ report at q (To (at + 3 + size))
     because-right {w′} e g r =
         let b : f .body ≡ numbers (r .list) = holds-one report (at + 3) (f .body) (numbers (r .list)) (f .long ∙ sym (r .all) ∙ sym (length-numbers (r .list))) (field-body report at kind (f .body) (f .holds)) (r .stand) in
         let h : Holds report at (field 132 (numbers (r .list))) = rw (b, e) at (f .holds) in
         record { kept = g; right = to {p = at + 3 + size} (because (r .reason)) h (omega (arith, length-field 132 (numbers (r .list)), length-numbers (r .list), r .all)) }
 
-    pub because-wrong : {w′ : List ℕ} → Within 17003 31096 w w′ → (Reasoned w report (at + 3) size q → ⊥) → Explained w w′ report at q Wrong
+    pub because-wrong : {w′ : List ℕ} → Within 17003 32096 w w′ → (Reasoned w report (at + 3) size q → ⊥) → Explained w w′ report at q Wrong
     because-wrong {w′} g h = record { kept = g; right = wrong (λ x. let r = reason-found x in go (r .0) (r .1) (r .2) (fields-one report at kind 132 (f .body) (numbers (r .0)) (f .holds) (r .2) .1)) }
       where
         go : (L : List ℕ) → Reason (q .size) (recordsIn (q .len) w) (q .before) (q .s .0) (q .t .0) L → Holds report at (field 132 (numbers L)) → f .body ≡ numbers L → ⊥

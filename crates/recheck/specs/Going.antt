@@ -40,5 +40,5 @@ pub data Turned (job report : List ℕ) (N : ℕ) (s : Stand) : Turn → Type 0 
   done : {answer : Judgement} → Verdict N (recordsOf (itemsIn job)) 0 (itemsIn job) 0 report answer → Turned job report N s (Done answer)
 
 pub record Advanced (job report w w′ : List ℕ) (N : ℕ) (s : Stand) (turn : Turn) : Type 0 where
-  pub kept : Within 17003 31096 w w′
+  pub kept : Within 17003 32096 w w′
   pub turned : Turned job report N s turn

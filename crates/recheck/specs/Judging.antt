@@ -42,5 +42,5 @@ pub data Verdict (N : ℕ) (rs : List Rec) (R : ℕ) (items : List Item) (at : �
 
 -- A report was judged: the answer is right for the whole of it, and the table's data are kept.
 pub record Judged (job report w w′ : List ℕ) (N : ℕ) (answer : Judgement) : Type 0 where
-  pub kept : Within 17003 31096 w w′
+  pub kept : Within 17003 32096 w w′
   pub verdict : Verdict N (recordsOf (itemsIn job)) 0 (itemsIn job) 0 report answer

@@ -50,7 +50,7 @@ pub record Named (w : List ℕ) (q : Question) (n : ℕ) : Type 0 where
 
 -- Place i of the n was exchanged with the last of them, and whether the others alone make s and t equal.
 pub record Sparing (w w′ : List ℕ) (q : Question) (n i : ℕ) (answer : Bool) : Type 0 where
-  pub kept : Within 17003 31096 w w′
+  pub kept : Within 17003 32096 w w′
   pub swap : Swap (listOf w) (listOf w′) i (n - 1)
   pub exact : (answer ≡ true) ↔ Follows (Only (recordsIn (q .len) w) (listIn (n - 1) w′)) (q .s .0) (q .t .0)
 

@@ -52,12 +52,12 @@ ExplainAnswer w q = Answers (q .size) (recordsIn (q .len) w) (q .before) (explai
 
 -- A test that is exact for A and writes only where a reason is looked for.
 pub record Deciding (A : Type 0) (w w′ : List ℕ) (answer : Bool) : Type 0 where
-  pub kept : Within 17003 31096 w w′
+  pub kept : Within 17003 32096 w w′
   pub exact : (answer ≡ true) ↔ A
 
 -- An explain was looked at.
 pub record Explained (w w′ report : List ℕ) (at : ℕ) (q : Question) (answer : Passed) : Type 0 where
-  pub kept : Within 17003 31096 w w′
+  pub kept : Within 17003 32096 w w′
   pub right : RightAt (ExplainAnswer w q) report at answer
 
 -- So many bytes at the place are the numbers of a reason.

@@ -1,9 +1,7 @@
--- `reasons::trimming::trim` meets its contract: each turn tries one more.
+-- `reasons::trimming::trim` meets its contract: each turn tries one block more.
 -- Assumes nothing.
-use borrow.Author.Needs.{needs}
 use Prim.Native.Nat.{_-_}
 use native.Mathlib.Omega.{arith}
-use native.Mathlib.Numerals.{add-one}
 use mathlib.Core.Path.{_≡_}
 use Rattle.reasons.proofs.Sparing.{Pruning, pruning-start, pruning-more, pruning-end}
 use Rattle.reasons.proofs.trimming.trim.Statement.{statement}
@@ -18,17 +16,17 @@ abbrev μ-loop : tie.MeasureT-loop
 loop-holds : tie.Need-loop-holds Inv-loop μ-loop
 loop-holds c = pruning-start (c .before .pre)
 
-try-one-requires : tie.Need-try-one-requires Inv-loop μ-loop
-try-one-requires c κs = (c .before .before .loop .inv .trying, c .before .loop-test .taken)
+block-end-requires : tie.Need-block-end-requires Inv-loop μ-loop
+block-end-requires c κs = (c .loop-test .taken, c .before .loop .inv .trying .short)
 
-add-i : tie.Need-add-i Inv-loop μ-loop
-add-i c = search needs
+try-block-requires : tie.Need-try-block-requires Inv-loop μ-loop
+try-block-requires c κs = (c .before .before .before .loop .inv .trying, omega (arith, c .before .block-end .ensures), c .before .block-end .ensures .1)
 
 loop-less : tie.Need-loop-less Inv-loop μ-loop
-loop-less c = search needs
+loop-less c = let m = c .before .before .before .before .block-end .ensures in omega (arith, m .0, m .1)
 
 loop-again : tie.Need-loop-again Inv-loop μ-loop
-loop-again c = rw add-one (pruning-more (c .before .before .before .before .before .loop .inv) (c .before .before .try-one .ensures))
+loop-again c = pruning-more (c .before .before .before .before .before .before .loop .inv) (c .before .before .try-block .ensures)
 
 same-length : tie.Need-same-length Inv-loop μ-loop
 same-length c = c .before .loop .inv .kept-in .size
@@ -43,8 +41,8 @@ trim-spec =
     Inv-loop
     μ-loop
     loop-holds
-    try-one-requires
-    add-i
+    block-end-requires
+    try-block-requires
     loop-less
     loop-again
     same-length

@@ -4,7 +4,7 @@ use borrow.Author.Needs.{needs}
 use mathlib.Core.Path.{refl}
 use native.Mathlib.Omega.{arith}
 use native.Mathlib.Numerals.{add-one}
-use Rattle.reasons.proofs.Sparing.{tried-listed, tried-drop, tried-keep}
+use Rattle.reasons.proofs.Sparing.{tried-listed, tried-held, tried-drop, tried-keep}
 use Rattle.reasons.proofs.trimming.try_one.Statement.{statement}
 use Rattle.reasons.proofs.trimming.try_one.Tie as tie
 
@@ -25,18 +25,20 @@ copy-requires c κs =
     let start = c .before .before in
     (start .pre .0 .loaded .long, omega (arith, start .pre .0 .few, start .pre .0 .short, start .pre .1), omega (arith, start .pre .0 .few, start .pre .0 .short, start .pre .1))
 
-add-entails : tie.Need-add-entails
-add-entails c = search needs
+add-resume : tie.Need-add-resume
+add-resume c = search needs
 
-entails-requires : tie.Need-entails-requires
-entails-requires c κs =
+resume-requires : tie.Need-resume-requires
+resume-requires c κs =
     let start = c .before .before .before .before .before .before in
-    (tried-listed (start .pre .0) (start .pre .1) refl (c .before .before .before .copy .ensures), start .pre .0 .s-tag, start .pre .0 .t-tag)
+    let T = start .pre .0 in
+    (tried-listed T (omega arith) (omega (arith, start .pre .1)) refl (c .before .before .before .copy .ensures), tried-held T (omega arith) (omega (arith, start .pre .1)) refl (c .before .before .before .copy .ensures) (start .pre .2), T .s-tag, T .t-tag)
 
 returns : tie.Need-returns
 returns c =
     let start = c .before .before .before .before .before .before .before .before .before .before in
-    tried-drop (start .pre .0) (start .pre .1) refl (c .before .before .before .before .before .before .before .copy .ensures) (c .before .before .before .entails .ensures) (c .if1 .taken)
+    let R = c .before .before .before .resume .ensures in
+    tried-drop (start .pre .0) (omega arith) (omega (arith, start .pre .1)) refl (c .before .before .before .before .before .before .before .copy .ensures) (omega arith) (R .kept) (R .exact) (c .if1 .taken)
 
 same-length : tie.Need-same-length
 same-length c = returns c .kept-in .size
@@ -47,12 +49,12 @@ add-listed c = search needs
 listed-requires : tie.Need-listed-requires
 listed-requires c κs =
     let start = c .before .before .before .before .before .before .before .before .before .before .before in
-    (omega (arith, start .pre .0 .loaded .long, c .before .before .before .before .before .before .before .before .copy .ensures .kept .size, c .before .before .before .before .entails .ensures .kept .size), omega (arith, start .pre .0 .short, start .pre .1))
+    (omega (arith, start .pre .0 .loaded .long, c .before .before .before .before .before .before .before .before .copy .ensures .kept .size, c .before .before .before .before .resume .ensures .kept .size), omega (arith, start .pre .0 .short, start .pre .1))
 
 put-listed-requires : tie.Need-put-listed-requires
 put-listed-requires c κs =
     let start = c .before .before .before .before .before .before .before .before .before .before .before .before .before in
-    (omega (arith, start .pre .0 .loaded .long, c .before .before .before .before .before .before .before .before .before .before .copy .ensures .kept .size, c .before .before .before .before .before .before .entails .ensures .kept .size), omega (arith, start .pre .0 .few, start .pre .0 .short, start .pre .1))
+    (omega (arith, start .pre .0 .loaded .long, c .before .before .before .before .before .before .before .before .before .before .copy .ensures .kept .size, c .before .before .before .before .before .before .resume .ensures .kept .size), omega (arith, start .pre .0 .few, start .pre .0 .short, start .pre .1))
 
 add-result : tie.Need-add-result
 add-result c = search needs
@@ -60,7 +62,9 @@ add-result c = search needs
 returns-2 : tie.Need-returns-2
 returns-2 c =
     let start = c .before .before .before .before .before .before .before .before .before .before .before .before .before .before .before .before in
-    rw add-one (tried-keep (start .pre .0) (start .pre .1) refl (c .before .before .before .before .before .before .before .before .before .before .before .before .before .copy .ensures) (c .before .before .before .before .before .before .before .before .before .entails .ensures) (c .before .before .before .before .listed .ensures) (c .before .before .put-listed .ensures) (c .before .before .before .before .before .before .if1 .left))
+    let R = c .before .before .before .before .before .before .before .before .before .resume .ensures in
+    rw (add-one (start .args .kept)) (tried-keep (start .pre .0) (omega arith) (omega (arith, start .pre .1)) refl (c .before .before .before .before .before .before .before .before .before .before .before .before .before .copy .ensures) (omega arith) (R .kept) (R .exact)
+    (add-one (start .args .i)) (c .before .before .before .before .listed .ensures) (c .before .before .put-listed .ensures) (c .before .before .before .before .before .before .if1 .left))
 
 same-length-2 : tie.Need-same-length-2
 same-length-2 c = returns-2 c .kept-in .size
@@ -74,8 +78,8 @@ try-one-spec =
     add-copy
     add-copy-2
     copy-requires
-    add-entails
-    entails-requires
+    add-resume
+    resume-requires
     same-length
     returns
     add-listed
