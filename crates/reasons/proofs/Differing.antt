@@ -40,6 +40,9 @@ chosen-first {w} {w′} {a} {c} m z q e = record { is = rw (eq-eqb (markOf w a) 
 pub firsts-start : (w : List ℕ) → Firsts w w 0 0
 firsts-start w = record { kept = within-refl w; many = refl; at = λ a l. absurd (omega arith) }
 
+pub firsts-low : {w w′ : List ℕ} {a c : ℕ} → Firsts w w′ a c → c ≤ a
+firsts-low {w} {w′} {a} f = omega (arith, f .many, count-low (applied w) a)
+
 applied-same : {w w′ : List ℕ} {e : ℕ} → Within 17003 e w w′ → markOf w′ ≡ markOf w → applied w′ ≡ applied w
 applied-same {w} {w′} f m = fun-ext (λ a. rw (m, kept-second f a) refl)
 
@@ -50,7 +53,7 @@ firsts-more {w} {w₁} {w₂} {a} {c} {r} l g f h = go (applied w a) refl
     now = applied-same (f .kept) (seen-within 30096 1000 (λ x. 0) (f .kept) (inr (omega arith)))
 
     place : c ≤ a
-    place = omega (arith, f .many, count-low (applied w) a)
+    place = firsts-low f
 
     long : 32768 ≤ length w₁
     long = omega (arith, f .kept .size)
