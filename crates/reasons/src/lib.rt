@@ -34,7 +34,7 @@ fn reason(
     tracing::unmark_all(work, joins);
     tracing::trace(work, s, t, b + 1);
     let n = listing::list_marked(work, b + 1);
-    let kept = trimming::trim(work, size, len, n, s, t);
+    let kept = comparing::prune(work, size, len, b + 1, n, s, t);
     rising::put_rising(work, len, kept)
 }
 

@@ -1,46 +1,30 @@
-use borrow.Author.Needs.{needs}
+-- `reasons::comparing::prune` meets its contract: none of what waits can be spared, or each is tried.
+-- Assumes nothing.
+use native.Mathlib.Omega.{arith}
+use Rattle.reasons.proofs.Differing.{asks-copy, pruned-none, asks-trim, pruned-some}
 use Rattle.reasons.proofs.comparing.prune.Statement.{statement}
 use Rattle.reasons.proofs.comparing.prune.Tie as tie
-use Rattle.reasons.proofs.comparing.prune.Reads as reads
-use Rattle.reasons.proofs.comparing.prune.Lts as lts
-use Rattle.reasons.proofs.comparing.unlike.Reads as unlike-reads
-use Rattle.reasons.proofs.trimming.copy.Reads as copy-reads
-use Rattle.reasons.proofs.trimming.trim.Reads as trim-reads
-use mathlib.Core.Path.{_≡_, refl, sym, ap, _∙_}
-use mathlib.Core.List.{List, map}
-use Prim.Native.Nat.{ℕ, zero, suc, _+_, _-_, _*_, _≤_, _<_}
-use native.Mathlib.Omega.{arith}
-use lib.ListN.{length, getD, set, take, drop, length-set}
-use mathlib.Core.Logic.{⊎-elim}
-use denote.Ref.{now}
 
--- src/comparing.rt:64:8
 unlike-requires : tie.Need-unlike-requires
-unlike-requires c κs = search needs
+unlike-requires c κs = c .before .before .pre
 
--- src/comparing.rt:65:9
 copy-requires : tie.Need-copy-requires
-copy-requires c κs = search needs
+copy-requires c κs = let h = asks-copy (c .before .before .before .before .before .before .before .pre) (c .before .before .before .before .unlike .ensures) in (h .0, omega (arith, h .1), omega (arith, h .1))
 
--- src/comparing.rt:66:9
-same-length : tie.Need-same-length
-same-length c = search needs
-
--- src/comparing.rt:66:9
 returns : tie.Need-returns
-returns c = search needs
+returns c = pruned-none (c .before .before .before .before .before .before .before .before .before .before .pre) (c .before .before .before .before .before .before .before .unlike .ensures) (c .before .before .before .before .if1 .taken) (c .before .before .copy .ensures)
 
--- src/comparing.rt:68:5
+same-length : tie.Need-same-length
+same-length c = returns c .kept-in .size
+
 trim-requires : tie.Need-trim-requires
-trim-requires c κs = search needs
+trim-requires c κs = asks-trim (c .before .before .before .before .before .before .before .pre) (c .before .before .before .before .unlike .ensures)
 
--- src/comparing.rt:52:1
-same-length-2 : tie.Need-same-length-2
-same-length-2 c = search needs
-
--- src/comparing.rt:52:1
 returns-2 : tie.Need-returns-2
-returns-2 c = search needs
+returns-2 c = pruned-some (c .before .before .before .before .before .before .before .before .before .before .pre) (c .before .before .before .before .before .before .before .unlike .ensures) (c .before .before .trim .ensures)
+
+same-length-2 : tie.Need-same-length-2
+same-length-2 c = returns-2 c .kept-in .size
 
 pub prune-spec : {M : Type 1} → statement M
 prune-spec =

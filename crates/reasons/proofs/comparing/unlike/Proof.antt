@@ -1,43 +1,27 @@
-use borrow.Author.Needs.{needs}
+-- `reasons::comparing::unlike` meets its contract: each step leaves what the next one asks, and the last tells the joins apart.
+-- Assumes nothing.
+use native.Mathlib.Omega.{arith}
+use Rattle.reasons.proofs.Differing.{asks-hold, asks-firsts, asks-distinct, compared}
 use Rattle.reasons.proofs.comparing.unlike.Statement.{statement}
 use Rattle.reasons.proofs.comparing.unlike.Tie as tie
-use Rattle.reasons.proofs.comparing.unlike.Reads as reads
-use Rattle.reasons.proofs.comparing.unlike.Lts as lts
-use Rattle.closure.proofs.distinct.Reads as distinct-reads
-use Rattle.closure.proofs.hold.Reads as hold-reads
-use Rattle.reasons.proofs.comparing.list_firsts.Reads as list-firsts-reads
-use Rattle.reasons.proofs.trimming.copy.Reads as copy-reads
-use mathlib.Core.Path.{_≡_, refl, sym, ap, _∙_}
-use mathlib.Core.List.{List, map}
-use Prim.Native.Nat.{ℕ, zero, suc, _+_, _-_, _*_, _≤_, _<_}
-use native.Mathlib.Omega.{arith}
-use lib.ListN.{length, getD, set, take, drop, length-set}
-use mathlib.Core.Logic.{⊎-elim}
-use denote.Ref.{now}
 
--- src/comparing.rt:45:5
 copy-requires : tie.Need-copy-requires
-copy-requires c κs = search needs
+copy-requires c κs = let start = c .before .before in (start .pre .past .loaded .long, omega (arith, start .pre .followed .short), omega (arith, start .pre .followed .short))
 
--- src/comparing.rt:46:5
 hold-requires : tie.Need-hold-requires
-hold-requires c κs = search needs
+hold-requires c κs = let start = c .before .before .before .before .before .before in (asks-hold (start .pre) (c .before .before .before .copy .ensures), start .pre .followed .s-tag, start .pre .followed .t-tag)
 
--- src/comparing.rt:47:9
 list-firsts-requires : tie.Need-list-firsts-requires
-list-firsts-requires c κs = search needs
+list-firsts-requires c κs = asks-firsts (c .before .before .before .before .before .before .before .before .before .before .pre) (c .before .before .before .before .before .before .before .copy .ensures) (c .before .before .before .hold .ensures)
 
--- src/comparing.rt:48:5
 distinct-requires : tie.Need-distinct-requires
-distinct-requires c κs = search needs
+distinct-requires c κs = asks-distinct (c .before .before .before .before .before .before .before .before .before .before .before .before .before .before .pre) (c .before .before .before .before .before .before .before .before .before .before .before .copy .ensures) (c .before .before .before .before .before .before .before .hold .ensures) (c .before .before .before .list-firsts .ensures)
 
--- src/comparing.rt:41:1
-same-length : tie.Need-same-length
-same-length c = search needs
-
--- src/comparing.rt:41:1
 returns : tie.Need-returns
-returns c = search needs
+returns c = compared (c .before .before .before .before .before .before .before .before .before .before .before .before .before .before .before .before .before .pre) (c .before .before .before .before .before .before .before .before .before .before .before .before .before .before .copy .ensures) (c .before .before .before .before .before .before .before .before .before .before .hold .ensures) (c .before .before .before .before .before .before .list-firsts .ensures) (c .before .before .distinct .ensures)
+
+same-length : tie.Need-same-length
+same-length c = returns c .kept .size
 
 pub unlike-spec : {M : Type 1} → statement M
 unlike-spec =
