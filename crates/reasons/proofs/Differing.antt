@@ -6,7 +6,7 @@ use native.Mathlib.Decide.{ℕ-discrete, decLt}
 use mathlib.Core.Path.{_≡_, refl, sym, _∙_, ap, subst, fun-ext}
 use mathlib.Core.Logic.{_≢_, inl, inr}
 use mathlib.Core.Bool.{Bool, true, false, cond, _&&_, not}
-use mathlib.Core.List.{List, List·Memᴰ}
+use mathlib.Core.List.{List}
 use lib.Dec.{T, eqb}
 use borrow.Author.Tests.{eq-eqb, ne-eqb}
 use lib.ListN.{length, set}
@@ -22,7 +22,7 @@ use Rattle.reasons.specs.Tracing.{marked}
 use Rattle.reasons.specs.Listing.{waitingIn}
 use Rattle.reasons.specs.Trimming.{Copied, Pruned, Followed}
 use Rattle.reasons.specs.Comparing.{applied, Chosen, Firsts, Comparing, Compared}
-use Rattle.reasons.proofs.Kept.{kept-left, kept-right, kept-first, kept-second, kept-records, kept-joins, kept-loaded, kept-marks}
+use Rattle.reasons.proofs.Kept.{kept-left, kept-right, kept-first, kept-second, kept-records, kept-loaded}
 use Rattle.reasons.proofs.Known.{join-two, join-arguments}
 use Rattle.reasons.proofs.Gathering.{list-hit, list-miss}
 

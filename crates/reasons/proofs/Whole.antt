@@ -2,7 +2,7 @@
 -- most that join's, and no record that is kept can be spared. Assumes nothing.
 use Prim.Native.Nat.{ℕ, zero, suc, _≤_, _<_}
 use native.Mathlib.Omega.{arith}
-use native.Mathlib.Decide.{ℕ-discrete, decLt, decLe}
+use native.Mathlib.Decide.{ℕ-discrete, decLt}
 use mathlib.Core.Path.{_≡_, ap}
 use mathlib.Core.Logic.{_≢_, _↔_, inl, inr}
 use mathlib.Core.Bool.{Bool, true, false}
@@ -16,6 +16,7 @@ use Rattle.meaning.specs.Trim.{Trimmed}
 use Rattle.meaning.specs.Walk.{Walked}
 use Rattle.meaning.specs.Needed.{Aim, tags, Needed}
 use Rattle.meaning.proofs.Log.{linked-follows}
+use Rattle.meaning.proofs.Needed.{used-up}
 use Rattle.meaning.proofs.Reference.{Small}
 use Rattle.meaning.proofs.Exact.{reason-of, reason-same}
 use Rattle.table.specs.Map.{whenOf, firstOf, secondOf, listOf, listIn, recAt, recordsIn, joinAt, Loaded, Within}
@@ -45,14 +46,6 @@ used-all e m (suc n) k i = elim (List·Memᴰ·append-cases (keep (m n) (numbers
   | inl h ↦ Memᴰ·append-left (used e all n) (keep-less (m n) (numbersOf (e n .why)) k h)
   | inr h ↦ Memᴰ·append-right (numbersOf (e n .why)) (used-all e m n k h)
 ]
-
-used-later : (e : ℕ → Join) (a n k : ℕ) → a ≤ n → List·Memᴰ k (used e all a) → List·Memᴰ k (used e all n)
-used-later e a zero k l i = let q : a ≡ 0 = omega arith in rw q at i
-used-later e a (suc n) k l i = go (used-later e a n k) (decLe a n)
-  where
-    go : (a ≤ n → List·Memᴰ k (used e all a) → List·Memᴰ k (used e all n)) → Dec (a ≤ n) → List·Memᴰ k (used e all (suc n))
-    go f (yes h) = Memᴰ·append-right (numbersOf (e n .why)) (f h i)
-    go f (no h) = let q : a ≡ suc n = omega arith in rw q at i
 
 module _ {N len n : ℕ} {w : List ℕ} (P : Past N len w n) where
   -- A record of a join is a record.
@@ -84,7 +77,7 @@ module _ {N len n : ℕ} {w : List ℕ} (P : Past N len w n) where
   used-within : (m : ℕ → Bool) (b : ℕ) → b < n → (k : ℕ) → List·Memᴰ k (used (joinAt w) m (suc b)) → (1 ≤ k) × (k ≤ whenOf w b)
   used-within m b l k i =
       let j = used-all (joinAt w) m (suc b) k i in
-      (used-some (suc b) l k j, P .moments (whenOf w b) (P .made b l .1) .within k (used-later (joinAt w) (suc b) (ageAfter w n (whenOf w b)) k (made-by P b l) j))
+      (used-some (suc b) l k j, P .moments (whenOf w b) (P .made b l .1) .within k (used-up (joinAt w) all (suc b) (ageAfter w n (whenOf w b)) k (made-by P b l) j))
 
 -- The records of the table, as the mathematics wants them.
 small-records : {N len : ℕ} {w : List ℕ} → Loaded N len w → (i : ℕ) → i < length (recordsIn len w) → Small N (getD (recordsIn len w) i (eq 0 0))

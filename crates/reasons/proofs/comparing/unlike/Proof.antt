@@ -12,7 +12,7 @@ hold-requires : tie.Need-hold-requires
 hold-requires c κs = let start = c .before .before .before .before .before .before in (asks-hold (start .pre) (c .before .before .before .copy .ensures), start .pre .followed .s-tag, start .pre .followed .t-tag)
 
 list-firsts-requires : tie.Need-list-firsts-requires
-list-firsts-requires c κs = asks-firsts (c .before .before .before .before .before .before .before .before .before .before .pre) (c .before .before .before .before .before .before .before .copy .ensures) (c .before .before .before .hold .ensures)
+list-firsts-requires c κs = let h = asks-firsts (c .before .before .before .before .before .before .before .before .before .before .pre) (c .before .before .before .before .before .before .before .copy .ensures) (c .before .before .before .hold .ensures) in (h .0, omega (arith, h .1))
 
 distinct-requires : tie.Need-distinct-requires
 distinct-requires c κs = asks-distinct (c .before .before .before .before .before .before .before .before .before .before .before .before .before .before .pre) (c .before .before .before .before .before .before .before .before .before .before .before .copy .ensures) (c .before .before .before .before .before .before .before .hold .ensures) (c .before .before .before .list-firsts .ensures)
