@@ -3,16 +3,17 @@
 use Prim.Native.Nat.{ℕ, suc, _+_, _≤_, _<_}
 use native.Mathlib.Omega.{arith}
 use native.Mathlib.Decide.{ℕ-discrete, decLt}
-use mathlib.Core.Path.{_≡_, refl, sym, _∙_, ap, fun-ext}
+use mathlib.Core.Path.{_≡_, refl, sym, _∙_, ap, subst, fun-ext}
 use mathlib.Core.Logic.{_≢_, _⊎_, inl, inr}
 use mathlib.Core.Bool.{Bool, true}
 use mathlib.Core.List.{List}
-use lib.Dec.{eqb}
+use lib.Dec.{T, eqb}
 use borrow.Author.Tests.{eq-eqb}
 use lib.ListN.{length, set}
 use Rattle.meaning.specs.Following.{Rec}
 use Rattle.meaning.specs.Joins.{Join, Linked, over, Supported, put}
 use Rattle.meaning.specs.Walk.{Walked}
+use Rattle.meaning.specs.Needed.{Crosses, Aim, tags, join, Needed, near-side, far-side, across, itself, lefts, rights}
 use Rattle.meaning.proofs.Forest.{newest}
 use Rattle.meaning.proofs.Log.{linked-refl, linked-sym, linked-trans, linked-more, linked-up, put-hit, put-miss}
 use Rattle.meaning.proofs.Walk.{walk-same, walk-by, walk-cong}
@@ -115,10 +116,20 @@ linked-moved : {e : ℕ → Join} {m : ℕ → Bool} {n x y x′ y′ : ℕ} →
 linked-moved p q i = rw (← p, ← q) i
 
 -- What a later call did, said of the table at the start.
-walked-at : {w w₁ w₂ : List ℕ} {b s t : ℕ} → Within 30096 31096 w w₁ → Traced w₁ w₂ b s t → (N len n : ℕ) → Past N len w n → b ≤ n → Supported (recordsIn len w) (joinAt w) (marked w₁) n
+walked-at : {w w₁ w₂ : List ℕ} {b s t : ℕ} {aim : Aim} → Within 30096 31096 w w₁ → Traced w₁ w₂ b s t aim → (N len n : ℕ) → Past N len w n → b ≤ n → Supported (recordsIn len w) (joinAt w) (marked w₁) n
     → Walked (recordsIn len w) (joinAt w) n (marked w₁) (marked w₂) b s t
 walked-at {w} {w₁} f r N len n P l S =
     rw (kept-records (wider f) len, kept-joins (wider f)) at (r .walked N len n (kept-past (wider f) P) l (supported-moved (kept-records (wider f) len) (kept-joins (wider f)) S))
+
+needed-at : {w w₁ w₂ : List ℕ} {b s t : ℕ} {aim : Aim} → Within 30096 31096 w w₁ → Traced w₁ w₂ b s t aim → (N len n : ℕ) → Past N len w n → b ≤ n → (a : ℕ) → T (marked w₂ a)
+    → T (marked w₁ a) ⊎ Needed (recordsIn len w) (joinAt w) aim a
+needed-at {w} {w₁} f r N len n P l a h = rw (kept-records (wider f) len, kept-joins (wider f)) at (r .needed N len n (kept-past (wider f) P) l a h)
+
+-- The newest join between s and t, in the words of the mathematics.
+crosses-of : {w : List ℕ} {s t b near far : ℕ} → Met w s t b → Sided w s t b near far → (N len n : ℕ) → Past N len w n → b ≤ n → Crosses (joinAt w) s t b near far
+crosses-of {w} {s} {t} {b} {near} {far} M d N len n P l =
+    let A = P .history .then b l in
+    record { apart = λ j. M .apart b (omega arith) (A .labels s t j); from = A .joins s near (d .from); onto = A .joins far t (d .onto); either = d .either }
 
 pub marked-set : (w : List ℕ) (b : ℕ) → b < 1000 → 32768 ≤ length w → marked (set w (30096 + b) 1) ≡ put b true (marked w)
 marked-set w b l h = fun-ext (λ a. go a (ℕ-discrete a b))
@@ -130,15 +141,32 @@ marked-set w b l h = fun-ext (λ a. go a (ℕ-discrete a b))
     go a (yes q) = ap (λ (f : ℕ → ℕ). eqb (f a) 1) mark ∙ rw (q, put-hit b 1 (markOf w), put-hit b true (marked w)) refl
     go a (no q) = ap (λ (f : ℕ → ℕ). eqb (f a) 1) mark ∙ rw (put-miss b 1 (markOf w) a q, put-miss b true (marked w) a q) refl
 
--- What each way through the two functions leaves.
-pub traced-same : (w : List ℕ) (limit s t : ℕ) → s ≡ t → Traced w w limit s t
-traced-same w limit s t q = record { kept = within-refl w; walked = λ N len n P l S. rw q (walk-same limit t S) }
+-- One mark more is of the join itself.
+marked-more : (w : List ℕ) (b : ℕ) → b < 1000 → 32768 ≤ length w → (rs : List Rec) (e : ℕ → Join) (a : ℕ) → T (marked (set w (30096 + b) 1) a) → T (marked w a) ⊎ Needed rs e (join b) a
+marked-more w b l g rs e a h = go (subst (λ (x : Bool). T x) (ap (λ (f : ℕ → Bool). f a) (marked-set w b l g)) h) (ℕ-discrete a b)
+  where
+    go : T (put b true (marked w) a) → Dec (a ≡ b) → T (marked w a) ⊎ Needed rs e (join b) a
+    go i (yes q) = inr (rw q itself)
+    go i (no q) = inl (rw (put-miss b true (marked w) a q) at i)
 
-pub traced-cross : {w w₁ w₂ w₃ : List ℕ} {s t b near far limit : ℕ} → suc b ≤ limit → Sided w s t b near far → Traced w w₁ b s near → Traced w₁ w₂ b far t
-    → Traced w₂ w₃ (suc b) (joinAt w₂ b .u) (joinAt w₂ b .v) → Traced w w₃ limit s t
-traced-cross {w} {w₁} {w₂} {w₃} {s} {t} {b} {near} {far} {limit} l d x y z = record {
+-- What each way through the two functions leaves.
+pub traced-same : (w : List ℕ) (limit s t : ℕ) → s ≡ t → Traced w w limit s t (tags s t)
+traced-same w limit s t q = record { kept = within-refl w; walked = λ N len n P l S. rw q (walk-same limit t S); needed = λ N len n P l a h. inl h }
+
+pub traced-cross : {w w₁ w₂ w₃ : List ℕ} {s t b near far limit : ℕ} → suc b ≤ limit → Met w s t b → Sided w s t b near far → Traced w w₁ b s near (tags s near) → Traced w₁ w₂ b far t (tags far t)
+    → Traced w₂ w₃ (suc b) (joinAt w₂ b .u) (joinAt w₂ b .v) (join b) → Traced w w₃ limit s t (tags s t)
+traced-cross {w} {w₁} {w₂} {w₃} {s} {t} {b} {near} {far} {limit} l M d x y z = record {
   kept = within-trans (x .kept) (within-trans (y .kept) (z .kept));
   walked = all;
+  needed = λ N len n P m a h.
+      let c = crosses-of M d N len n P (omega arith) in
+      elim (needed-at two z N len n P (omega arith) a h) [
+        | inl h₂ ↦ elim (needed-at (x .kept) y N len n P (omega arith) a h₂) [
+          | inl h₁ ↦ elim (x .needed N len n P (omega arith) a h₁) [ inl h₀ ↦ inl h₀ | inr i ↦ inr (near-side c i) ]
+          | inr i ↦ inr (far-side c i)
+        ]
+        | inr i ↦ inr (across c i)
+      ];
 }
   where
     two : Within 30096 31096 w w₂
@@ -163,22 +191,35 @@ traced-cross {w} {w₁} {w₂} {w₃} {s} {t} {b} {near} {far} {limit} l d x y z
         across (inl k) e = rw (k .0, k .1) e
         across (inr k) e = rw (k .0, k .1) (linked-sym e)
 
-pub taken-known : (w : List ℕ) (b : ℕ) → markOf w b ≡ 1 → Traced w w (suc b) (joinAt w b .u) (joinAt w b .v)
+pub taken-known : (w : List ℕ) (b : ℕ) → markOf w b ≡ 1 → Traced w w (suc b) (joinAt w b .u) (joinAt w b .v) (join b)
 taken-known w b q = record {
   kept = within-refl w;
+  needed = λ N len n P l a h. inl h;
   walked = λ N len n P l S. record { more = λ a h. h; supported = S; linked = over {n = b} (rw (eq-eqb (markOf w b) 1 q) tt) (linked-refl b (joinAt w b .u)) (linked-refl b (joinAt w b .v)) };
 }
 
-pub taken-one : (w : List ℕ) (b : ℕ) → b < 1000 → 32768 ≤ length w → secondOf w b ≡ 0 → Traced w (set w (30096 + b) 1) (suc b) (joinAt w b .u) (joinAt w b .v)
+pub taken-one : (w : List ℕ) (b : ℕ) → b < 1000 → 32768 ≤ length w → secondOf w b ≡ 0 → Traced w (set w (30096 + b) 1) (suc b) (joinAt w b .u) (joinAt w b .v) (join b)
 taken-one w b k g z = record {
+  needed = λ N len n P l. marked-more w b k g (recordsIn len w) (joinAt w);
   kept = within-set 30096 31096 w (30096 + b) 1 (omega arith) (omega arith);
   walked = λ N len n P l S. let o = join-one P b l z in
       rw (marked-set w b k g) (walk-by b (suc b) (omega arith) (o .why) (o .at) (walk-same b (joinAt w b .u) S) (walk-same b (joinAt w b .v) S));
 }
 
-pub taken-two : {w w₁ w₂ : List ℕ} {b : ℕ} → b < 1000 → 32768 ≤ length w → secondOf w b ≢ 0 → Traced w w₁ b (leftOf w (firstOf w b)) (leftOf w (secondOf w b))
-    → Traced w₁ w₂ b (rightOf w (firstOf w b)) (rightOf w (secondOf w b)) → Traced w (set w₂ (30096 + b) 1) (suc b) (joinAt w b .u) (joinAt w b .v)
+pub taken-two : {w w₁ w₂ : List ℕ} {b : ℕ} → b < 1000 → 32768 ≤ length w → secondOf w b ≢ 0
+    → Traced w w₁ b (leftOf w (firstOf w b)) (leftOf w (secondOf w b)) (tags (leftOf w (firstOf w b)) (leftOf w (secondOf w b)))
+    → Traced w₁ w₂ b (rightOf w (firstOf w b)) (rightOf w (secondOf w b)) (tags (rightOf w (firstOf w b)) (rightOf w (secondOf w b)))
+    → Traced w (set w₂ (30096 + b) 1) (suc b) (joinAt w b .u) (joinAt w b .v) (join b)
 taken-two {w} {w₁} {w₂} {b} k g z x y = record {
+  needed = λ N len n P l a h.
+      let o = join-two P b l z in
+      elim (marked-more w₂ b k (omega (arith, two .size)) (recordsIn len w) (joinAt w) a h) [
+        | inl h₂ ↦ elim (needed-at (x .kept) y N len n P (omega arith) a h₂) [
+          | inl h₁ ↦ elim (x .needed N len n P (omega arith) a h₁) [ inl h₀ ↦ inl h₀ | inr i ↦ inr (lefts (o .why) (o .at) (o .at′) i) ]
+          | inr i ↦ inr (rights (o .why) (o .at) (o .at′) i)
+        ]
+        | inr i ↦ inr i
+      ];
   kept = within-trans two (within-set 30096 31096 w₂ (30096 + b) 1 (omega arith) (omega arith));
   walked = λ N len n P l S.
       let o = join-two P b l z in
@@ -210,11 +251,11 @@ caused-lefts h k z = rw (k .a-is, k .a′-is) (holds-pairs h (λ e. z (k .second
 pub caused-rights : {w : List ℕ} {b q a a′ c c′ : ℕ} → Holds w (suc b) → Caused w b q a a′ c c′ → q ≢ 0 → Together w c c′ b
 caused-rights h k z = rw (k .c-is, k .c′-is) (holds-pairs h (λ e. z (k .second-is ∙ e)) .rights)
 
-pub caused-one : {w w′ : List ℕ} {b q a a′ c c′ : ℕ} → Holds w (suc b) → Caused w b q a a′ c c′ → q ≡ 0 → w′ ≡ set w (30096 + b) 1 → Traced w w′ (suc b) (joinAt w b .u) (joinAt w b .v)
+pub caused-one : {w w′ : List ℕ} {b q a a′ c c′ : ℕ} → Holds w (suc b) → Caused w b q a a′ c c′ → q ≡ 0 → w′ ≡ set w (30096 + b) 1 → Traced w w′ (suc b) (joinAt w b .u) (joinAt w b .v) (join b)
 caused-one {w} {w′} {b} h k z e = rw e (taken-one w b (holds-ranged h .age) (h .past .loaded .long) (sym (k .second-is) ∙ z))
 
-pub caused-two : {w w₁ w₂ w′ : List ℕ} {b q a a′ c c′ : ℕ} → Holds w (suc b) → Caused w b q a a′ c c′ → q ≢ 0 → Traced w w₁ b a a′ → Traced w₁ w₂ b c c′
-    → w′ ≡ set w₂ (30096 + b) 1 → Traced w w′ (suc b) (joinAt w b .u) (joinAt w b .v)
+pub caused-two : {w w₁ w₂ w′ : List ℕ} {b q a a′ c c′ : ℕ} → Holds w (suc b) → Caused w b q a a′ c c′ → q ≢ 0 → Traced w w₁ b a a′ (tags a a′) → Traced w₁ w₂ b c c′ (tags c c′)
+    → w′ ≡ set w₂ (30096 + b) 1 → Traced w w′ (suc b) (joinAt w b .u) (joinAt w b .v) (join b)
 caused-two {w} {w₁} {w₂} {w′} {b} h k z x y e =
     rw e (taken-two (holds-ranged h .age) (h .past .loaded .long) (λ i. z (k .second-is ∙ i)) (rw (k .a-is, k .a′-is) at x) (rw (k .c-is, k .c′-is) at y))
 

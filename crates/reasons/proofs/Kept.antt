@@ -34,29 +34,29 @@ module _ {e : ℕ} {w w′ : List ℕ} (f : Within 17003 e w w′) where
   pub kept-whens : whenOf w′ ≡ whenOf w
   kept-whens = seen-within 16003 1000 (λ x. 0) f (inl (omega arith))
 
-  left-same : (k : ℕ) → leftOf w′ k ≡ leftOf w k
-  left-same k = ap (λ (h : ℕ → ℕ). h k) (seen-within 0 4001 (λ x. 0) f (inl (omega arith)))
+  pub kept-left : (k : ℕ) → leftOf w′ k ≡ leftOf w k
+  kept-left k = ap (λ (h : ℕ → ℕ). h k) (seen-within 0 4001 (λ x. 0) f (inl (omega arith)))
 
-  right-same : (k : ℕ) → rightOf w′ k ≡ rightOf w k
-  right-same k = ap (λ (h : ℕ → ℕ). h k) (seen-within 4001 4001 (λ x. 0) f (inl (omega arith)))
+  pub kept-right : (k : ℕ) → rightOf w′ k ≡ rightOf w k
+  kept-right k = ap (λ (h : ℕ → ℕ). h k) (seen-within 4001 4001 (λ x. 0) f (inl (omega arith)))
 
   result-same : (k : ℕ) → resultOf w′ k ≡ resultOf w k
   result-same k = ap (λ (h : ℕ → ℕ). h k) (seen-within 8002 4001 (λ x. 0) f (inl (omega arith)))
 
-  first-same : (k : ℕ) → firstOf w′ k ≡ firstOf w k
-  first-same k = ap (λ (h : ℕ → ℕ). h k) (seen-within 14003 1000 (λ x. 0) f (inl (omega arith)))
+  pub kept-first : (k : ℕ) → firstOf w′ k ≡ firstOf w k
+  kept-first k = ap (λ (h : ℕ → ℕ). h k) (seen-within 14003 1000 (λ x. 0) f (inl (omega arith)))
 
-  second-same : (k : ℕ) → secondOf w′ k ≡ secondOf w k
-  second-same k = ap (λ (h : ℕ → ℕ). h k) (seen-within 15003 1000 (λ x. 0) f (inl (omega arith)))
+  pub kept-second : (k : ℕ) → secondOf w′ k ≡ secondOf w k
+  kept-second k = ap (λ (h : ℕ → ℕ). h k) (seen-within 15003 1000 (λ x. 0) f (inl (omega arith)))
 
   record-same : (k : ℕ) → recAt w′ k ≡ recAt w k
-  record-same k = rw (left-same k, right-same k, result-same k)
+  record-same k = rw (kept-left k, kept-right k, result-same k)
 
   pub kept-records : (len : ℕ) → recordsIn len w′ ≡ recordsIn len w
   kept-records len = gather-same (λ k. recAt w′ (suc k)) (λ k. recAt w (suc k)) len (λ i l. record-same (suc i))
 
   pub kept-joins : joinAt w′ ≡ joinAt w
-  kept-joins = fun-ext (λ a. rw (first-same a, second-same a, left-same (firstOf w a), right-same (firstOf w a), result-same (firstOf w a), result-same (secondOf w a)))
+  kept-joins = fun-ext (λ a. rw (kept-first a, kept-second a, kept-left (firstOf w a), kept-right (firstOf w a), result-same (firstOf w a), result-same (secondOf w a)))
 
   pub kept-loaded : {N len : ℕ} → Loaded N len w → Loaded N len w′
   kept-loaded h = record { long = rw (f .size) (h .long); some = h .some; few = h .few; most = h .most; small = λ k l. rw (record-same (suc k)) (h .small k l) }

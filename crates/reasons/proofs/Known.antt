@@ -10,6 +10,7 @@ use lib.Dec.{eqb}
 use borrow.Author.Tests.{eq-eqb, ne-eqb}
 use Rattle.meaning.specs.Following.{Rec, eq, app, At}
 use Rattle.meaning.specs.Joins.{Why, by, cong, Join, Joined, Grounds, equation, applications}
+use Rattle.meaning.specs.Needed.{Arguments}
 use Rattle.meaning.proofs.Reference.{Small}
 use Rattle.table.specs.Map.{leftOf, rightOf, resultOf, firstOf, secondOf, recAt, recordsIn, joinAt, Loaded}
 use Rattle.table.proofs.Frame.{length-gather, getD-gather}
@@ -104,3 +105,21 @@ module _ {N len n : ℕ} {w : List ℕ} (P : Past N len w n) (b : ℕ) (l : b < 
       go : (y : Why) → joinAt w b .why ≡ y → Grounds (recordsIn len w) (Joined (joinAt w) b) (joinAt w b .u) (joinAt w b .v) y → Two N len w b
       go (by k) q g = let y : _≡_ {A = ℕ} 0 1 = cc is in absurd (omega arith)
       go (cong k k′) q (applications {a = x} {b = y} {a′ = x′} {b′ = y′} i i′ j j′) = two k k′ (cc is) (cc is) x y x′ y′ i i′ j j′
+
+  -- The columns have the arguments of the first of two applications.
+  pub join-arguments : {x y : ℕ} → Arguments (recordsIn len w) (joinAt w) b x y → (secondOf w b ≢ 0) × (leftOf w (firstOf w b) ≡ x) × (rightOf w (firstOf w b) ≡ y)
+  join-arguments {x} {y} i = (two, columns .0, columns .1)
+    where
+      two : secondOf w b ≢ 0
+      two z =
+          let q : by (firstOf w b) ≡ cong (i .first) (i .second) = sym (join-one z .why) ∙ i .why in
+          let o : _≡_ {A = ℕ} 0 1 = cc q in
+          omega arith
+
+      first : firstOf w b ≡ i .first
+      first =
+          let q : cong (firstOf w b) (secondOf w b) ≡ cong (i .first) (i .second) = sym (join-two two .why) ∙ i .why in
+          cc q
+
+      columns : (leftOf w (firstOf w b) ≡ x) × (rightOf w (firstOf w b) ≡ y) × (resultOf w (firstOf w b) ≡ i .result)
+      columns = app-columns w (firstOf w b) x y (i .result) (eqb (resultOf w (firstOf w b)) 65535) (at-stands (P .loaded) (at-moved first (i .at)) .is)

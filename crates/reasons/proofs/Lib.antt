@@ -5,5 +5,6 @@ pub mod Moments
 pub mod Crossing
 pub mod Gathering
 pub mod Sparing
+pub mod Differing
 pub mod Noting
 pub mod Whole

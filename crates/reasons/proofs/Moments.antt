@@ -6,14 +6,14 @@ use native.Mathlib.Numerals.{add-one}
 use native.Mathlib.Decide.{ℕ-discrete, decLt, decLe}
 use mathlib.Core.Path.{_≡_, refl, sym, _∙_}
 use mathlib.Core.Logic.{_⊎_, inl, inr}
-use mathlib.Core.Bool.{Bool, true, false}
 use mathlib.Core.List.{List}
 use lib.Dec.{leb}
 use borrow.Author.Tests.{le-leb, lt-leb}
 use Rattle.meaning.specs.Following.{Follows, UpTo, Leader}
 use Rattle.meaning.specs.Reasons.{FirstAt}
-use Rattle.meaning.specs.Joins.{count, tick}
+use Rattle.meaning.specs.Joins.{count}
 use Rattle.meaning.specs.Forest.{root, Links}
+use Rattle.meaning.proofs.Count.{count-low}
 use Rattle.meaning.proofs.Forest.{root-stop, root-up, root-ind}
 use Rattle.meaning.proofs.Log.{linked-up}
 use Rattle.meaning.proofs.Exact.{settled-same, settled-leader}
@@ -30,14 +30,6 @@ pub count-out : (h : ℕ → ℕ) (k a n r : ℕ) → r ≡ h a → k < r → n 
 count-out h k a n r e l q = rw (add-one a, lt-leb (h a) k (omega arith)) q
 
 -- Where h rises, the numbers counted are the first.
-count-most : (p : ℕ → Bool) (n : ℕ) → count p n ≤ n
-count-most p zero = omega arith
-count-most p (suc n) = go (p n) (count-most p n)
-  where
-    go : (b : Bool) → count p n ≤ n → tick b (count p n) ≤ suc n
-    go true l = omega arith
-    go false l = omega arith
-
 module _ (h : ℕ → ℕ) (k : ℕ) where
   front-in : (n : ℕ) → ((a b : ℕ) → a ≤ b → b < n → h a ≤ h b) → (a : ℕ) → a < n → h a ≤ k → a < count (λ i. leb (h i) k) n
   front-in zero rise a l m = absurd (omega arith)
@@ -65,7 +57,7 @@ module _ (h : ℕ → ℕ) (k : ℕ) where
     where
       go : (a < n → k < h a → count (λ i. leb (h i) k) n ≤ a) → Dec (a < n) → count (λ i. leb (h i) k) n ≤ a
       go f (yes j) = f j m
-      go f (no j) = omega (arith, count-most (λ i. leb (h i) k) n)
+      go f (no j) = omega (arith, count-low (λ i. leb (h i) k) n)
 
 -- No join has an age from n up to 1,000, so the leaders do not change there.
 root-beyond : (p g : ℕ → ℕ) (n a : ℕ) → Links p g 1000 n → n ≤ a → a ≤ 1000 → (x : ℕ) → root p g a x ≡ root p g n x
@@ -83,7 +75,7 @@ module _ {N len n : ℕ} {w : List ℕ} (P : Past N len w n) where
   leader-after k l x = settled-leader (P .moments k l) x
 
   pub age-after-most : (k : ℕ) → ageAfter w n k ≤ n
-  age-after-most k = count-most (λ a. leb (whenOf w a) k) n
+  age-after-most k = count-low (λ a. leb (whenOf w a) k) n
 
   -- A join has been made once its own record is in.
   pub made-by : (b : ℕ) → b < n → b < ageAfter w n (whenOf w b)

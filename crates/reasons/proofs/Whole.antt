@@ -2,18 +2,21 @@
 -- most that join's, and no record that is kept can be spared. Assumes nothing.
 use Prim.Native.Nat.{ℕ, zero, suc, _≤_, _<_}
 use native.Mathlib.Omega.{arith}
-use native.Mathlib.Decide.{ℕ-discrete, decLt, decLe}
+use native.Mathlib.Decide.{ℕ-discrete, decLt}
 use mathlib.Core.Path.{_≡_, ap}
 use mathlib.Core.Logic.{_≢_, _↔_, inl, inr}
 use mathlib.Core.Bool.{Bool, true, false}
 use mathlib.Core.List.{List, [], _∷_, List·Memᴰ, List·Memᴰ·append-cases, List·Memᴰ·cases-cons, List·Memᴰ·eq-of-singleton, List·Memᴰ·not-nil, Memᴰ·append-left, Memᴰ·append-right}
+use lib.Dec.{T}
 use lib.ListN.{length, getD}
 use Rattle.meaning.specs.Following.{Rec, eq}
 use Rattle.meaning.specs.Reasons.{Reason}
-use Rattle.meaning.specs.Joins.{Join, numbersOf, keep, used, all}
+use Rattle.meaning.specs.Joins.{Join, Supported, numbersOf, keep, used, all}
 use Rattle.meaning.specs.Trim.{Trimmed}
 use Rattle.meaning.specs.Walk.{Walked}
+use Rattle.meaning.specs.Needed.{Aim, tags, Needed}
 use Rattle.meaning.proofs.Log.{linked-follows}
+use Rattle.meaning.proofs.Needed.{used-up}
 use Rattle.meaning.proofs.Reference.{Small}
 use Rattle.meaning.proofs.Exact.{reason-of, reason-same}
 use Rattle.table.specs.Map.{whenOf, firstOf, secondOf, listOf, listIn, recAt, recordsIn, joinAt, Loaded, Within}
@@ -23,10 +26,11 @@ use Rattle.reasons.specs.Meeting.{Met}
 use Rattle.reasons.specs.Tracing.{marked, Holds, Together, Traced, Unmarked}
 use Rattle.reasons.specs.Listing.{waitingIn, Gathered}
 use Rattle.reasons.specs.Trimming.{Pruned, Followed}
+use Rattle.reasons.specs.Comparing.{Comparing}
 use Rattle.reasons.specs.Rising.{Numbered, Sorted}
 use Rattle.reasons.specs.Explaining.{Question, Explained, Joining, Reasoned}
 use Rattle.reasons.specs.declared.Answer.the-variants.{Because, Apart}
-use Rattle.reasons.proofs.Kept.{kept-records, kept-joins, kept-past, kept-loaded}
+use Rattle.reasons.proofs.Kept.{kept-records, kept-joins, kept-past, kept-loaded, kept-marks}
 use Rattle.reasons.proofs.Known.{join-one, join-two}
 use Rattle.reasons.proofs.Moments.{met-first, met-join, met-later, met-never, made-by}
 use Rattle.reasons.proofs.Crossing.{kept-leader, unmarked-supported}
@@ -42,14 +46,6 @@ used-all e m (suc n) k i = elim (List·Memᴰ·append-cases (keep (m n) (numbers
   | inl h ↦ Memᴰ·append-left (used e all n) (keep-less (m n) (numbersOf (e n .why)) k h)
   | inr h ↦ Memᴰ·append-right (numbersOf (e n .why)) (used-all e m n k h)
 ]
-
-used-later : (e : ℕ → Join) (a n k : ℕ) → a ≤ n → List·Memᴰ k (used e all a) → List·Memᴰ k (used e all n)
-used-later e a zero k l i = let q : a ≡ 0 = omega arith in rw q at i
-used-later e a (suc n) k l i = go (used-later e a n k) (decLe a n)
-  where
-    go : (a ≤ n → List·Memᴰ k (used e all a) → List·Memᴰ k (used e all n)) → Dec (a ≤ n) → List·Memᴰ k (used e all (suc n))
-    go f (yes h) = Memᴰ·append-right (numbersOf (e n .why)) (f h i)
-    go f (no h) = let q : a ≡ suc n = omega arith in rw q at i
 
 module _ {N len n : ℕ} {w : List ℕ} (P : Past N len w n) where
   -- A record of a join is a record.
@@ -81,13 +77,23 @@ module _ {N len n : ℕ} {w : List ℕ} (P : Past N len w n) where
   used-within : (m : ℕ → Bool) (b : ℕ) → b < n → (k : ℕ) → List·Memᴰ k (used (joinAt w) m (suc b)) → (1 ≤ k) × (k ≤ whenOf w b)
   used-within m b l k i =
       let j = used-all (joinAt w) m (suc b) k i in
-      (used-some (suc b) l k j, P .moments (whenOf w b) (P .made b l .1) .within k (used-later (joinAt w) (suc b) (ageAfter w n (whenOf w b)) k (made-by P b l) j))
+      (used-some (suc b) l k j, P .moments (whenOf w b) (P .made b l .1) .within k (used-up (joinAt w) all (suc b) (ageAfter w n (whenOf w b)) k (made-by P b l) j))
 
 -- The records of the table, as the mathematics wants them.
 small-records : {N len : ℕ} {w : List ℕ} → Loaded N len w → (i : ℕ) → i < length (recordsIn len w) → Small N (getD (recordsIn len w) i (eq 0 0))
 small-records {N} {len} {w} h i l =
     let k : i < len = rw (length-gather (λ j. recAt w (suc j)) len) at l in
     rw (getD-gather (λ j. recAt w (suc j)) len i (eq 0 0) k) (h .small i k)
+
+-- What is said of joins and marks, said of equal ones.
+supported-at : {rs rs′ : List Rec} {e e′ : ℕ → Join} {m m′ : ℕ → Bool} {n : ℕ} → rs ≡ rs′ → e ≡ e′ → m ≡ m′ → Supported rs′ e′ m′ n → Supported rs e m n
+supported-at p q r h = rw (p, q, r) h
+
+needed-at : {rs rs′ : List Rec} {e e′ : ℕ → Join} {m m′ : ℕ → Bool} {n : ℕ} {aim : Aim} → rs ≡ rs′ → e ≡ e′ → m ≡ m′ → ((a : ℕ) → a < n → T (m′ a) → Needed rs′ e′ aim a) → (a : ℕ) → a < n → T (m a) → Needed rs e aim a
+needed-at p q r h = rw (p, q, r) h
+
+used-at : {e e′ : ℕ → Join} {m m′ : ℕ → Bool} (n : ℕ) {k : ℕ} {L : List ℕ} → e ≡ e′ → m ≡ m′ → List·Memᴰ k (used e′ m′ n) ↔ List·Memᴰ k L → List·Memᴰ k (used e m n) ↔ List·Memᴰ k L
+used-at n p q h = rw (p, q) h
 
 wide : {a e : ℕ} {w w′ : List ℕ} → 17003 ≤ a → e ≤ 32096 → Within a e w w′ → Within 17003 32096 w w′
 wide l m f = within-wider 17003 32096 l m f
@@ -108,7 +114,7 @@ module _ {N len n s t b : ℕ} {w : List ℕ} (J : Joining N len n s t b w) wher
       equal = rw (kept-leader (U .kept) (suc b) s, kept-leader (U .kept) (suc b) t) (J .met .joined (omega (arith, few, J .join)));
     }
 
-    module _ {w₂ : List ℕ} (X : Traced w₁ w₂ (suc b) s t) where
+    module _ {w₂ : List ℕ} (X : Traced w₁ w₂ (suc b) s t (tags s t)) where
       frame₂ : Within 17003 32096 w w₂
       frame₂ = within-trans frame₁ (wide (omega arith) (omega arith) (X .kept))
 
@@ -117,6 +123,12 @@ module _ {N len n s t b : ℕ} {w : List ℕ} (J : Joining N len n s t b w) wher
 
       walked : Walked (recordsIn len w) (joinAt w) n (marked w₁) (marked w₂) (suc b) s t
       walked = rw (kept-records frame₁ len, kept-joins frame₁) at (X .walked N len n (kept-past frame₁ (J .past)) (J .join) (unmarked-supported (recordsIn len w₁) (joinAt w₁) U))
+
+      needed : (a : ℕ) → T (marked w₂ a) → a < suc b → Needed (recordsIn len w) (joinAt w) (tags s t) a
+      needed a h l = elim (X .needed N len n (kept-past frame₁ (J .past)) (J .join) a h) [
+        | inl i ↦ absurd (rw (U .none a (omega (arith, J .join))) at i)
+        | inr i ↦ rw (kept-records frame₁ len, kept-joins frame₁) at i
+      ]
 
       module _ {w₃ : List ℕ} {m : ℕ} (G : Gathered w₂ w₃ (suc b) m) where
         frame₃ : Within 17003 32096 w w₃
@@ -128,8 +140,8 @@ module _ {N len n s t b : ℕ} {w : List ℕ} (J : Joining N len n s t b w) wher
         named : (k : ℕ) → List·Memᴰ k (waitingIn m w₃) → (1 ≤ k) × (k ≤ whenOf w b)
         named k i = used-within (J .past) (marked w₂) b (J .join) k (same k .1 i)
 
-        pub asks-trim : Followed N len s t w₃ m
-        asks-trim = record {
+        followed : Followed N len s t w₃ m
+        followed = record {
           loaded = kept-loaded frame₃ (J .past .loaded);
           s-tag = J .s-tag;
           t-tag = J .t-tag;
@@ -137,6 +149,20 @@ module _ {N len n s t b : ℕ} {w : List ℕ} (J : Joining N len n s t b w) wher
           named = λ k i. let h = named k i in (h .0, omega (arith, h .1, J .past .made b (J .join) .1));
           entails = rw (kept-records frame₃ len) (linked-follows (recordsIn len w) (joinAt w) (marked w₂) (λ k. List·Memᴰ k (waitingIn m w₃)) (suc b)
               (λ a l. walked .supported a (omega (arith, J .join))) (λ k. same k .0) s t (walked .linked));
+        }
+
+        marks : marked w₃ ≡ marked w₂
+        marks = kept-marks (G .kept)
+
+        pub asks-prune : Comparing N len (suc b) m s t w₃
+        asks-prune = record {
+          followed = followed;
+          joins = n;
+          past = kept-past frame₃ (J .past);
+          reach = J .join;
+          supported = supported-at (kept-records frame₃ len) (kept-joins frame₃) marks (λ a l. walked .supported a (omega (arith, J .join)));
+          needed = needed-at (kept-records frame₃ len) (kept-joins frame₃) marks (λ a l h. needed a h l);
+          same = λ k. used-at (suc b) (kept-joins frame₃) marks (same k);
         }
 
         module _ {w₄ : List ℕ} {kept : ℕ} (Q : Pruned N len s t w₃ w₄ m kept) where
@@ -147,8 +173,8 @@ module _ {N len n s t b : ℕ} {w : List ℕ} (J : Joining N len n s t b w) wher
           asks-rising = record {
             long = omega (arith, J .past .loaded .long, frame₄ .size);
             most = J .past .loaded .most;
-            short = omega (arith, Q .few, asks-trim .short);
-            named = λ i l. asks-trim .named (listOf w₄ i) (Q .fewer (listOf w₄ i) (gather-in (listOf w₄) kept i l));
+            short = omega (arith, Q .few, followed .short);
+            named = λ i l. followed .named (listOf w₄ i) (Q .fewer (listOf w₄ i) (gather-in (listOf w₄) kept i l));
           }
 
           trimmed : Trimmed (recordsIn len w) s t (λ k. List·Memᴰ k (listIn kept w₄)) (suc (whenOf w b))

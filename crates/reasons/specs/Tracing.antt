@@ -5,9 +5,10 @@ use mathlib.Core.Path.{_≡_}
 use mathlib.Core.Logic.{_⊎_}
 use mathlib.Core.Bool.{Bool}
 use mathlib.Core.List.{List}
-use lib.Dec.{eqb}
+use lib.Dec.{T, eqb}
 use Rattle.meaning.specs.Joins.{Supported}
 use Rattle.meaning.specs.Walk.{Walked}
+use Rattle.meaning.specs.Needed.{Aim, Needed}
 use Rattle.table.specs.Map.{leftOf, rightOf, firstOf, secondOf, markOf, joinAt, recordsIn, Within}
 use Rattle.closure.specs.Past.{Past}
 use Rattle.reasons.specs.Meeting.{leaderAt, Met}
@@ -61,11 +62,12 @@ pub record Caused (w : List ℕ) (b second a a′ c c′ : ℕ) : Type 0 where
   pub c′-is : c′ ≡ rightOf w (secondOf w b)
 
 -- From w to w′ only marks were set, and whatever records the table holds: where the marked joins rested on marked ones they still do,
--- and the marked joins older than `limit` now link s and t.
-pub record Traced (w w′ : List ℕ) (limit s t : ℕ) : Type 0 where
+-- and the marked joins older than `limit` now link s and t. No join was marked that following the aim, two tags or a join, does not come by.
+pub record Traced (w w′ : List ℕ) (limit s t : ℕ) (aim : Aim) : Type 0 where
   pub kept : Within 30096 31096 w w′
   pub walked : (N len n : ℕ) → Past N len w n → limit ≤ n → Supported (recordsIn len w) (joinAt w) (marked w) n
       → Walked (recordsIn len w) (joinAt w) n (marked w) (marked w′) limit s t
+  pub needed : (N len n : ℕ) → Past N len w n → limit ≤ n → (a : ℕ) → T (marked w′ a) → T (marked w a) ⊎ Needed (recordsIn len w) (joinAt w) aim a
 
 -- From w to w′ only marks were taken off, all those of the first n joins.
 pub record Unmarked (w w′ : List ℕ) (n : ℕ) : Type 0 where

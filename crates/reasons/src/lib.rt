@@ -4,6 +4,7 @@ ghost use Prim.Native.Nat.{ℕ, _≤_, _<_};
 ghost use Rattle.reasons.specs.Explaining.{Question, Explained, Joining, Reasoned};
 use meaning::Tag;
 
+pub mod comparing;
 pub mod listing;
 pub mod meeting;
 pub mod notes;
@@ -33,7 +34,7 @@ fn reason(
     tracing::unmark_all(work, joins);
     tracing::trace(work, s, t, b + 1);
     let n = listing::list_marked(work, b + 1);
-    let kept = trimming::trim(work, size, len, n, s, t);
+    let kept = comparing::prune(work, size, len, b + 1, n, s, t);
     rising::put_rising(work, len, kept)
 }
 

@@ -3,6 +3,7 @@
 ghost use mathlib.Core.Path.{_≡_};
 ghost use Prim.Native.Nat.{ℕ, suc, _+_, _≤_, _<_};
 ghost use lib.ListN.{length, set};
+ghost use Rattle.meaning.specs.Needed.{tags, join};
 ghost use Rattle.table.specs.Map.{joinAt};
 ghost use Rattle.reasons.specs.Tracing.{Holds, Together, Crossed, Ended, Sided, Caused, Traced, Unmarked};
 use meaning::RecordNo;
@@ -87,7 +88,7 @@ fn causes_of(work: &[u16], b: usize) -> Causes
 // Marks joins older than `limit` that show s and t equal, with all that those rest on.
 pub fn trace(work: &mut [u16], s: Tag, t: Tag, limit: usize)
     requires { ⌜ Together (now work) (s .0) (t .0) limit ⌝ }
-    ensures { λ _. ⌜ Traced (now (work .entry)) (now (work .exit)) limit (s .0) (t .0) ⌝ }
+    ensures { λ _. ⌜ Traced (now (work .entry)) (now (work .exit)) limit (s .0) (t .0) (tags (s .0) (t .0)) ⌝ }
 {
     if s.0 != t.0 {
         let b = crate::meeting::met(work, s, t);
@@ -103,7 +104,7 @@ pub fn trace(work: &mut [u16], s: Tag, t: Tag, limit: usize)
 // Marks the join of age b, and before it what shows its argument pairs equal.
 fn take(work: &mut [u16], b: usize)
     requires { ⌜ Holds (now work) (suc b) ⌝ }
-    ensures { λ _. ⌜ Traced (now (work .entry)) (now (work .exit)) (suc b) (joinAt (now (work .entry)) b .u) (joinAt (now (work .entry)) b .v) ⌝ }
+    ensures { λ _. ⌜ Traced (now (work .entry)) (now (work .exit)) (suc b) (joinAt (now (work .entry)) b .u) (joinAt (now (work .entry)) b .v) (join b) ⌝ }
 {
     if table::mark(work, b) != 1 {
         let k = causes_of(work, b);

@@ -11,7 +11,7 @@ use meaning::Tag;
 const BLOCK: usize = 32;
 
 // The `count` numbers of the list from `from` on, which stand behind, are written from `to` on.
-fn copy(work: &mut [u16], from: usize, to: usize, count: usize)
+pub fn copy(work: &mut [u16], from: usize, to: usize, count: usize)
     requires { ⌜ (32768 ≤ length (now work)) × (to + count ≤ from) × (from + count ≤ 4000) ⌝ }
     ensures { λ _. ⌜ Copied (now (work .entry)) (now (work .exit)) from to count ⌝ }
 {

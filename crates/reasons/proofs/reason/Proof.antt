@@ -3,7 +3,7 @@
 use borrow.Author.Needs.{needs}
 use native.Mathlib.Omega.{arith}
 use native.Mathlib.Numerals.{add-one}
-use Rattle.reasons.proofs.Whole.{asks-trace, asks-list, asks-trim, asks-rising, reasoned}
+use Rattle.reasons.proofs.Whole.{asks-trace, asks-list, asks-prune, asks-rising, reasoned}
 use Rattle.reasons.proofs.reason.Statement.{statement}
 use Rattle.reasons.proofs.reason.Tie as tie
 
@@ -22,14 +22,17 @@ add-list-marked c = search needs
 list-marked-requires : tie.Need-list-marked-requires
 list-marked-requires c κs = rw add-one (asks-list (c .before .before .before .before .before .before .before .before .before .before .pre) (c .before .before .before .before .before .before .before .unmark-all .ensures) (rw add-one at (c .before .before .before .trace .ensures)))
 
-trim-requires : tie.Need-trim-requires
-trim-requires c κs = asks-trim (c .before .before .before .before .before .before .before .before .before .before .before .before .before .before .pre) (c .before .before .before .before .before .before .before .before .before .before .before .unmark-all .ensures) (rw add-one at (c .before .before .before .before .before .before .before .trace .ensures)) (rw add-one at (c .before .before .before .list-marked .ensures))
+add-prune : tie.Need-add-prune
+add-prune c = search needs
+
+prune-requires : tie.Need-prune-requires
+prune-requires c κs = rw add-one (asks-prune (c .before .before .before .before .before .before .before .before .before .before .before .before .before .before .pre) (c .before .before .before .before .before .before .before .before .before .before .before .unmark-all .ensures) (rw add-one at (c .before .before .before .before .before .before .before .trace .ensures)) (rw add-one at (c .before .before .before .list-marked .ensures)))
 
 put-rising-requires : tie.Need-put-rising-requires
-put-rising-requires c κs = asks-rising (c .before .before .before .before .before .before .before .before .before .before .before .before .before .before .before .before .before .before .pre) (c .before .before .before .before .before .before .before .before .before .before .before .before .before .before .before .unmark-all .ensures) (rw add-one at (c .before .before .before .before .before .before .before .before .before .before .before .trace .ensures)) (rw add-one at (c .before .before .before .before .before .before .before .list-marked .ensures)) (c .before .before .before .trim .ensures)
+put-rising-requires c κs = asks-rising (c .before .before .before .before .before .before .before .before .before .before .before .before .before .before .before .before .before .before .pre) (c .before .before .before .before .before .before .before .before .before .before .before .before .before .before .before .unmark-all .ensures) (rw add-one at (c .before .before .before .before .before .before .before .before .before .before .before .trace .ensures)) (rw add-one at (c .before .before .before .before .before .before .before .list-marked .ensures)) (c .before .before .before .prune .ensures)
 
 returns : tie.Need-returns
-returns c = reasoned (c .before .before .before .before .before .before .before .before .before .before .before .before .before .before .before .before .before .before .before .before .before .pre) (c .before .before .before .before .before .before .before .before .before .before .before .before .before .before .before .before .before .before .unmark-all .ensures) (rw add-one at (c .before .before .before .before .before .before .before .before .before .before .before .before .before .before .trace .ensures)) (rw add-one at (c .before .before .before .before .before .before .before .before .before .before .list-marked .ensures)) (c .before .before .before .before .before .before .trim .ensures) (c .before .before .put-rising .ensures)
+returns c = reasoned (c .before .before .before .before .before .before .before .before .before .before .before .before .before .before .before .before .before .before .before .before .before .pre) (c .before .before .before .before .before .before .before .before .before .before .before .before .before .before .before .before .before .before .unmark-all .ensures) (rw add-one at (c .before .before .before .before .before .before .before .before .before .before .before .before .before .before .trace .ensures)) (rw add-one at (c .before .before .before .before .before .before .before .before .before .before .list-marked .ensures)) (c .before .before .before .before .before .before .prune .ensures) (c .before .before .put-rising .ensures)
 
 same-length : tie.Need-same-length
 same-length c = returns c .kept .size
@@ -43,7 +46,8 @@ reason-spec =
     trace-requires
     add-list-marked
     list-marked-requires
-    trim-requires
+    add-prune
+    prune-requires
     put-rising-requires
     same-length
     returns)

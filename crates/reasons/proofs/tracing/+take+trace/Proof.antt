@@ -112,7 +112,7 @@ trace-returns : (t : ℕ) → trace-lts.Need-returns (met-reads.Asked, met-reads
 trace-returns t c =
     let start = c .before .before .before .before .before .before .before .before .before .before .before .before .before .before .before .before .before .before .before .before .before .before in
     let x = crossed-of (start .pre .1) (c .before .before .before .before .before .before .before .before .before .before .before .before .before .before .before .before .met .ensures) in
-    traced-cross (x .0) (c .before .before .before .before .before .before .before .before .before .before .before .before .before .before .sides .ensures) (c .before .before .before .before .before .before .before .before .before .before .trace .ensures) (c .before .before .before .before .before .before .trace2 .ensures) (c .before .before .take .ensures)
+    traced-cross (x .0) (x .1 .met) (c .before .before .before .before .before .before .before .before .before .before .before .before .before .before .sides .ensures) (c .before .before .before .before .before .before .before .before .before .before .trace .ensures) (c .before .before .before .before .before .before .trace2 .ensures) (c .before .before .take .ensures)
 
 trace-returns-2 : (t : ℕ) → trace-lts.Need-returns-2 (met-reads.Asked, met-reads.Learnt, sides-reads.Asked, sides-reads.Learnt, trace-below t, trace.Post, take-below t, take.Post) (trace-at t) trace.Post
 trace-returns-2 t c = traced-same _ _ _ _ (c .if1 .left)
