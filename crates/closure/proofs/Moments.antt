@@ -47,6 +47,7 @@ between-start {N} {len} {w} {w′} h b = record {
     labels = fresh-labels (fun-ext (b .labels));
     sound = λ x. rw (b .labels x) same;
     total = fresh-total N (fun-ext (b .labels));
+    own = λ x l. b .labels x;
     log = λ k. record {
       history = history;
       justified = λ a l. absurd (omega arith);
@@ -131,6 +132,7 @@ state-next {N} {len} {i} {w} {n} b low = record {
   labels = b .state .labels;
   sound = λ x. more-of (λ k m. Memᴰ·append-left (listOf w i ∷ []) m) (b .state .sound x);
   total = b .state .total;
+  own = b .state .own;
   log = λ y. let g = b .state .log tt in record {
     history = g .history;
     justified = g .justified;
@@ -202,6 +204,7 @@ entails-start {N} {len} {n} {w} {w′} e h f = rw e (record {
   labels = fresh-labels (fun-ext (f .labels));
   sound = λ x. rw (f .labels x) same;
   total = fresh-total N (fun-ext (f .labels));
+  own = λ x l. f .labels x;
   log = λ y. absurd y;
 })
 
@@ -212,6 +215,7 @@ resume-start {N} {len} {n} {j} {w} {w′} e h v r = rw e (record {
   labels = rw (r .labels) (v .labels);
   sound = λ x. rw (records-same wide len, list, r .labels) (v .sound x);
   total = rw (r .labels) (v .total);
+  own = rw (r .labels) (v .own);
   log = λ y. absurd y;
 })
   where
@@ -258,6 +262,7 @@ module _ {N len n j j′ : ℕ} {w w′ w″ : List ℕ} {t : Task} {few : Bool}
       labels = rw (p .saved) (r .state .labels);
       sound = λ x. rw (records, p .saved) (rested-sound x);
       total = rw (p .saved) (r .state .total);
+      own = rw (p .saved) (r .state .own);
     };
     exact = rw (q, label) (λ c. rested-exact x y .0 (eqb-true _ _ c), λ h. eq-eqb _ _ (rested-exact x y .1 h));
     settled = rw (p .saved) rested-exact;

@@ -12,7 +12,7 @@ use lib.ListN.{length, set, length-set}
 use Rattle.meaning.specs.Joins.{Join, put}
 use Rattle.meaning.specs.Labels.{into, classes}
 use Rattle.meaning.proofs.Log.{put-hit, put-miss}
-use Rattle.meaning.proofs.Relabel.{relabel-labels, relabel-classes, Ends}
+use Rattle.meaning.proofs.Relabel.{into-miss, relabel-labels, relabel-classes, Ends}
 use Rattle.table.specs.Map.{parentOf, ageOf, firstOf, secondOf, whenOf, listOf, labelOf, joinBy, joinAt, Within}
 use Rattle.table.proofs.Frame.{seen-in, seen-out, seen-within, within-trans, within-wider, within-set}
 use Rattle.closure.specs.declared.Task.{Task}
@@ -114,7 +114,10 @@ module _ {t : Task} {w : List ℕ} {n k k′ lo hi : ℕ} (J : Joining t w n k k
   fewer : classes f (t .size) ≡ suc (classes (λ x. into lo hi (f x)) (t .size))
   fewer = relabel-classes f lo hi (J .state .labels) (of-lo (J .ends)) (of-hi (J .ends) .0) less (t .size) (of-hi (J .ends) .1)
 
-  -- The two bounds that the stores need.
+  -- The bounds that the stores need.
+  pub unite-low : hi < t .size
+  unite-low = of-hi (J .ends) .1
+
   pub unite-high : hi < 1000
   unite-high = omega (arith, of-hi (J .ends) .1, J .state .listed .loaded .few)
 
@@ -128,6 +131,7 @@ module _ {t : Task} {w : List ℕ} {n k k′ lo hi : ℕ} (J : Joining t w n k k
     labels = rw b (relabel-labels f lo hi (J .state .labels) (of-lo (J .ends)) (of-hi (J .ends) .0) less);
     sound = rw (lefts r, rights r, results r, l, b) (sound-join lo hi (J .state .sound) (J .due) (J .ends));
     total = rw b (omega (arith, fewer, J .state .total));
+    own = rw b (λ x l. ap (into lo hi) (J .state .own x l) ∙ into-miss lo hi x (omega (arith, of-hi (J .ends) .1)));
     log = λ y. let v = g y in rw (v .join, v .parent, v .age, v .when, lefts r, rights r, results r, l, b)
         (logged-join (J .state .log y) lo hi (omega (arith, unite-young)) less (of-lo (J .ends)) (of-hi (J .ends) .0) (J .ends) (J .due) (J .some));
   }

@@ -17,7 +17,7 @@ use Rattle.meaning.proofs.Relabel.{into-miss, getD-any}
 use Rattle.table.specs.Map.{leftOf, rightOf, resultOf, parentOf, ageOf, firstOf, secondOf, whenOf, listOf, labelOf, savedOf, nextOf, headOf, seen, joinAt, recordsIn, Loaded, Within}
 use Rattle.table.proofs.Frame.{seen-at, seen-past, seen-within, within-trans, within-wider}
 use Rattle.closure.specs.Chain.{seekTo}
-use Rattle.closure.specs.Closing.{Listed}
+use Rattle.closure.specs.Closing.{Own, Listed}
 use Rattle.closure.specs.declared.Task.{Task}
 use Rattle.closure.specs.State.{reach, width, nextTo, nextIn, headIn, State, Fills, CountsUp, Raised, Lowered, Relabelled, Fresh, Preserved, Restored, Cleared, Unlinked, Enlisted, Begun, Kept, eqnOf, keyOf, resOf}
 use Rattle.closure.proofs.Chain.{seek-same}
@@ -50,22 +50,29 @@ module _ (at n : ℕ) (w v : List ℕ) (fits : at + n ≤ length w) (size : leng
           let e : (at + n) + (i - (at + n)) ≡ i = omega arith in
           rw (← e) (sym (getD-drop (at + n) _ (i - (at + n)) 0) ∙ ap (λ (u : List ℕ). getD u (i - (at + n)) 0) tail ∙ getD-drop (at + n) w (i - (at + n)) 0)
 
--- Relabelling the part is relabelling the labels.
-pub relabelled : (w w′ v : List ℕ) (lo hi : ℕ) → 32768 ≤ length w → hi < 1000 → w′ ≡ take 21003 w ++ (v ++ drop 1000 (drop 21003 w)) → v ≡ map (into lo hi) (take 1000 (drop 21003 w))
+-- Relabelling the part of the first N labels is relabelling the labels: the others are no tag's.
+pub relabelled : (N : ℕ) (w w′ v : List ℕ) (lo hi : ℕ) → 32768 ≤ length w → N ≤ 1000 → hi < N → Own N (labelOf w) → w′ ≡ take 21003 w ++ (v ++ drop N (drop 21003 w)) → v ≡ map (into lo hi) (take N (drop 21003 w))
     → Relabelled w w′ lo hi
-relabelled w w′ v lo hi long h e q = record { frame = rw e (part-within 21003 1000 w v (omega arith) size); labels = fun-ext (λ x. go x (decLt x 1000)) }
+relabelled N w w′ v lo hi long few h own e q = record { frame = within-wider 21003 22003 (omega arith) (omega arith) frame; labels = fun-ext (λ x. go x (decLt x N)) }
   where
-    size : length v ≡ 1000
-    size = rw q (length-map (take 1000 (drop 21003 w)) (into lo hi) ∙ length-take-le 1000 (drop 21003 w) (rw length-drop (omega arith)))
+    size : length v ≡ N
+    size = rw q (length-map (take N (drop 21003 w)) (into lo hi) ∙ length-take-le N (drop 21003 w) (rw length-drop (omega arith)))
 
-    old : (x : ℕ) → x < 1000 → getD (take 1000 (drop 21003 w)) x 0 ≡ getD w (21003 + x) 0
-    old x l = getD-take 1000 (drop 21003 w) x 0 l ∙ getD-drop 21003 w x 0
+    frame : Within 21003 (21003 + N) w w′
+    frame = rw e (part-within 21003 N w v (omega arith) size)
 
-    go : (x : ℕ) → Dec (x < 1000) → labelOf w′ x ≡ into lo hi (labelOf w x)
+    old : (x : ℕ) → x < N → getD (take N (drop 21003 w)) x 0 ≡ getD w (21003 + x) 0
+    old x l = getD-take N (drop 21003 w) x 0 l ∙ getD-drop 21003 w x 0
+
+    beyond : (x : ℕ) → N ≤ x → Dec (x < 1000) → labelOf w′ x ≡ labelOf w x
+    beyond x l (yes k) = rw (seen-at 21003 1000 (λ x. x) w′ x k, seen-at 21003 1000 (λ x. x) w x k) (frame .same (21003 + x) (inr (omega arith)))
+    beyond x l (no k) = rw (seen-past 21003 1000 (λ x. x) w′ x (omega arith), seen-past 21003 1000 (λ x. x) w x (omega arith))
+
+    go : (x : ℕ) → Dec (x < N) → labelOf w′ x ≡ into lo hi (labelOf w x)
     go x (yes l) =
-        rw (seen-at 21003 1000 (λ x. x) w′ x l, seen-at 21003 1000 (λ x. x) w x l, e) (part-at 21003 1000 w v (omega arith) size x l
-        ∙ getD-any v x 0 (into lo hi 0) (omega (arith, size)) ∙ ap (λ (u : List ℕ). getD u x (into lo hi 0)) q ∙ List·getD-map (into lo hi) (take 1000 (drop 21003 w)) x 0 ∙ ap (into lo hi) (old x l))
-    go x (no l) = rw (seen-past 21003 1000 (λ x. x) w′ x (omega arith), seen-past 21003 1000 (λ x. x) w x (omega arith)) (sym (into-miss lo hi x (omega arith)))
+        rw (seen-at 21003 1000 (λ x. x) w′ x (omega arith), seen-at 21003 1000 (λ x. x) w x (omega arith), e) (part-at 21003 N w v (omega arith) size x l
+        ∙ getD-any v x 0 (into lo hi 0) (omega (arith, size)) ∙ ap (λ (u : List ℕ). getD u x (into lo hi 0)) q ∙ List·getD-map (into lo hi) (take N (drop 21003 w)) x 0 ∙ ap (into lo hi) (old x l))
+    go x (no l) = beyond x (omega arith) (decLt x 1000) ∙ own x (omega arith) ∙ sym (into-miss lo hi x (omega arith)) ∙ ap (into lo hi) (sym (own x (omega arith)))
 
 -- A part that was filled, or that counts up.
 module _ (at n : ℕ) (w w′ v : List ℕ) (fits : at + n ≤ length w) (size : length v ≡ length (take n (drop at w))) (e : w′ ≡ take at w ++ (v ++ drop n (drop at w))) where
@@ -247,6 +254,7 @@ module _ {w w′ : List ℕ} (f : Within 22003 30096 w w′) where
     labels = rw label (s .labels);
     sound = rw (lefts frame, rights frame, results frame, list, label) (s .sound);
     total = rw label (s .total);
+    own = rw label (s .own);
     log = λ k. rw (joins, lefts frame, rights frame, results frame, list, label, parent, age, when) (s .log k);
   }
 

@@ -31,11 +31,16 @@ pub record Entailing (N len n s t : ℕ) (w w′ : List ℕ) (answer : Bool) : T
   pub kept : Within 21003 30096 w w′
   pub exact : (answer ≡ true) ↔ Follows (Only (recordsIn len w) (listIn n w)) s t
 
+-- What is no tag of the job is its own label.
+abbrev pub Own : ℕ → (ℕ → ℕ) → Type 0
+Own N f = (x : ℕ) → N ≤ x → f x ≡ x
+
 -- The labels that are saved follow from the records that P picks of 1 to len on N tags, and it took so many joins to make them.
 pub record Saved (N len : ℕ) (P : ℕ → Type 0) (w : List ℕ) (joins : ℕ) : Type 0 where
   pub labels : Labels (savedOf w)
   pub sound : (x : ℕ) → Follows (Those (recordsIn len w) P) x (savedOf w x)
   pub total : joins + classes (savedOf w) N ≡ N
+  pub own : Own N (savedOf w)
 
 -- Whether s and t are equal by exactly the records of the list; and the labels are saved, equal exactly where equality follows from the list.
 pub record Holding (N len n s t : ℕ) (w w′ : List ℕ) (joins : ℕ) (answer : Bool) : Type 0 where

@@ -14,7 +14,7 @@ use Rattle.meaning.specs.Forest.{root, History}
 use Rattle.meaning.proofs.Exact.{Settled}
 use Rattle.table.specs.Map.{leftOf, rightOf, resultOf, parentOf, ageOf, whenOf, listOf, labelOf, savedOf, seen, joinBy, joinAt, recordsIn, listIn, Within}
 use Rattle.closure.specs.Chain.{look, Chains, Filled}
-use Rattle.closure.specs.Closing.{Listed}
+use Rattle.closure.specs.Closing.{Own, Listed}
 use Rattle.closure.specs.declared.Task.{Task}
 
 -- By place of the list: whether the record is an equation, both argument labels as one number, the result's label.
@@ -64,6 +64,7 @@ pub record State (t : Task) (w : List ℕ) (n : ℕ) : Type 0 where
   pub labels : Labels (labelOf w)
   pub sound : (x : ℕ) → Follows (Only (recordsIn (t .len) w) (listIn (t .places) w)) x (labelOf w x)
   pub total : n + classes (labelOf w) (t .size) ≡ t .size
+  pub own : Own (t .size) (labelOf w)
   pub log : T (t .keep) → Logged (recordsIn (t .len) w) (listIn (t .places) w) (t .places) (labelOf w) (parentOf w) (ageOf w) (joinAt w) (whenOf w) n
 
 -- What may change: the scratch, and the log if joins are kept; never the list.

@@ -15,7 +15,7 @@ ghost use Rattle.meaning.specs.Labels.{into};
 ghost use Rattle.table.specs.Map.{labelOf, headOf, listIn, Loaded, Within};
 ghost use Rattle.closure.specs.Chain.{seekTo, hits};
 ghost use Rattle.closure.specs.State.{Fills, CountsUp, Raised, Lowered, Relabelled, Fresh, Preserved, Restored, Cleared, Unlinked, Enlisted, width, nextTo, apart, noted, keyIn, keyOf, eqnOf, Readable, Seeking, Joining, Joined, Stepping, Stepped, Unifying, State, Passed, Rested, Between, Admitted, Begun, Singled};
-ghost use Rattle.closure.specs.Closing.{Listed, Closing, Entailing, Saved, Holding, Telling};
+ghost use Rattle.closure.specs.Closing.{Own, Listed, Closing, Entailing, Saved, Holding, Telling};
 use meaning::RecordNo;
 use meaning::Tag;
 use table::AGE;
@@ -126,12 +126,12 @@ fn lower(part: &mut [u16], gap: usize)
     }
 }
 
-// The label hi becomes lo for every tag.
-fn merge(work: &mut [u16], lo: Tag, hi: Tag)
-    requires { ⌜ (32768 ≤ length (now work)) × (hi .0 < 1000) ⌝ }
+// The label hi becomes lo for every tag. Only the job's tags, those below `size`, can have another's label.
+fn merge(work: &mut [u16], size: usize, lo: Tag, hi: Tag)
+    requires { ⌜ (32768 ≤ length (now work)) × (size ≤ 1000) × (hi .0 < size) × Own size (labelOf (now work)) ⌝ }
     ensures { λ _. ⌜ Relabelled (now (work .entry)) (now (work .exit)) (lo .0) (hi .0) ⌝ }
 {
-    relabel(&mut work[LABEL..NEXT], hi.0, lo.0);
+    relabel(&mut work[LABEL..LABEL + size], hi.0, lo.0);
 }
 
 // The join of age `joins` is kept: it linked hi under lo, its records are two, and it was made at a third.
@@ -231,7 +231,7 @@ fn unite(
     requires { ⌜ Joining task (now work) joins (first .0) (second .0) (lo .0) (hi .0) × (lo .0 < hi .0) ⌝ }
     ensures { λ _. ⌜ Joined task (now (work .entry)) (now (work .exit)) joins ⌝ }
 {
-    merge(work, lo, hi);
+    merge(work, task.size, lo, hi);
     if task.keep {
         let n = task.places;
         note(work, joins, first, second, RecordNo(n as u16), lo, hi);

@@ -5,10 +5,10 @@ use borrow.Author.Needs.{needs}
 use native.Mathlib.Omega.{arith}
 use Rattle.closure.proofs.unite.Statement.{statement}
 use Rattle.closure.proofs.unite.Tie as tie
-use Rattle.closure.proofs.Uniting.{unite-high, unite-young, unite-bare, unite-kept}
+use Rattle.closure.proofs.Uniting.{unite-low, unite-high, unite-young, unite-bare, unite-kept}
 
 merge-requires : tie.Need-merge-requires
-merge-requires c κs = let s = c .before .before in (s .pre .0 .state .listed .loaded .long, unite-high (s .pre .0) (s .pre .1))
+merge-requires c κs = let s = c .before .before in (s .pre .0 .state .listed .loaded .long, s .pre .0 .state .listed .loaded .few, unite-low (s .pre .0) (s .pre .1), s .pre .0 .state .own)
 
 cast-t16 : tie.Need-cast-t16
 cast-t16 c = let s = c .before .before .before .before .before .before .before in record { fits = omega (arith, s .pre .0 .state .listed .short) }
