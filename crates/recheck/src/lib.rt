@@ -7,12 +7,13 @@ ghost use Prim.Native.Nat.{_+_, _≤_, _<_};
 ghost use lib.ListN.{length};
 ghost use Rattle.table.specs.Map.{listIn, recordsIn};
 ghost use Rattle.recheck.specs.Judging.{Judgeable, Judged};
-ghost use Rattle.recheck.specs.Right.{Posed, Came, RightAt, AskAnswer, question, Deciding, Explained, Reasoned, Known, Ended};
+ghost use Rattle.recheck.specs.Right.{Posed, Came, RightAt, AskAnswer, question, Assuring, Deciding, Explained, Reasoned, Known, Ended};
 ghost use Rattle.recheck.specs.Lists.{Rising, Swapped, Arranged, Brought, Named, Sparing, NoneSpare, Sufficient};
 ghost use Rattle.recheck.specs.Going.{Going, Advanced, behind};
 use job::Field;
 use meaning::RecordNo;
 use meaning::Tag;
+use reasons::Answer;
 use reasons::meeting::wide;
 use report::Front;
 
@@ -237,8 +238,24 @@ fn serves(work: &mut [u16], count: usize, q: Question) -> bool
     suffices(work, count, q)
 }
 
-// Whether so many bytes at a place are the numbers of a reason, where `first` is the first k.
-fn is_reason(
+// Whether so many bytes at a place are the numbers of the reason that is found here. Another reason may stand there where they are not.
+fn is_own(report: &[u8], at: usize, bytes: usize, work: &mut [u16], q: Question) -> bool
+    requires { ⌜ Posed (now work) q × (at + bytes ≤ length (now report)) ⌝ }
+    ensures { λ r. ⌜ Assuring (Reasoned (now (work .entry)) (now (report .entry)) at bytes q) (now (work .entry)) (now (work .exit)) r ⌝ }
+{
+    match reasons::explain(work, q.size, q.len, q.joins, q.before, q.s, q.t) {
+        Answer::Apart => false,
+        Answer::Because(count) => {
+            if 2 * count != bytes {
+                return false;
+            }
+            report::is_list(report, at, work, count)
+        }
+    }
+}
+
+// Whether so many bytes at a place are numbers that meet each point of a reason, where `first` is the first k.
+fn meets(
     report: &[u8],
     at: usize,
     bytes: usize,
@@ -262,6 +279,25 @@ fn is_reason(
     } else {
         false
     }
+}
+
+// Whether so many bytes at a place are the numbers of a reason, where `first` is the first k. To find one costs less than to test one, so
+// one that is found again is not tested.
+fn is_reason(
+    report: &[u8],
+    at: usize,
+    bytes: usize,
+    work: &mut [u16],
+    q: Question,
+    first: usize,
+) -> bool
+    requires { ⌜ Known (now work) q first × (at + bytes ≤ length (now report)) ⌝ }
+    ensures { λ r. ⌜ Deciding (Reasoned (now (work .entry)) (now (report .entry)) at bytes q) (now (work .entry)) (now (work .exit)) r ⌝ }
+{
+    if is_own(report, at, bytes, work, q) {
+        return true;
+    }
+    meets(report, at, bytes, work, q, first)
 }
 
 // Whether a reason stands at a place, where `first` is the first k.
