@@ -33,7 +33,7 @@ use Rattle.recheck.specs.declared.Question.{Question}
 use Rattle.recheck.specs.declared.Passed.the-variants.{To, Wrong}
 use Rattle.recheck.specs.Right.{Came, RightAt, to, wrong, ExplainAnswer, Assuring, Deciding, Explained, Reasoned, Known}
 use Rattle.recheck.specs.Lists.{Rising, Named, Serving, Sufficient}
-use Rattle.recheck.proofs.Lists.{rising-apart, rising-named, posed-kept}
+use Rattle.recheck.proofs.Lists.{rising-named, posed-kept}
 
 -- What stands at the front of the bytes from a place on stands at the place.
 pub record Found (P : List ℕ → Type 0) (report : List ℕ) (at : ℕ) : Type 0 where
@@ -156,7 +156,11 @@ module _ (w report : List ℕ) (at bytes : ℕ) (q : Question) where
           short = omega (arith, K .posed .past .loaded .few);
           named = λ i l. let r = rising-named (listOf w′) (bytes / 2) k rise i l in (r .0, omega (arith, r .1, K .early, K .posed .early));
         };
-        distinct = rising-apart (listOf w′) (bytes / 2) k rise;
+        few = omega (arith, K .posed .past .loaded .few);
+        ordered = listIn (bytes / 2) w′;
+        rising = rise .rising;
+        many = length-gather (listOf w′) (bytes / 2);
+        same = λ x. (λ m. m, λ m. m);
       }
 
       pub reason-served : {w″ : List ℕ} {answer : Bool} → Deciding (Sufficient w′ q (bytes / 2)) w′ w″ answer → Deciding (Reasoned w report at bytes q) w w″ answer

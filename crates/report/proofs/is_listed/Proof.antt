@@ -7,8 +7,6 @@ use Prim.Native.Nat.{ℕ, _+_, _*_}
 use mathlib.Core.Path.{_≡_, _∙_, sym}
 use denote.Ref.{now}
 use Rattle.table.specs.Map.{listOf}
-use Rattle.report.specs.Report.{two}
-use Rattle.report.specs.Read.{Holds}
 use Rattle.report.proofs.Read.{is-so, number-held}
 
 listed-requires : tie.Need-listed-requires
