@@ -31,9 +31,9 @@ use Rattle.report.proofs.Bytes.{length-field, length-numbers, numbers-one, fiel
 use Rattle.report.proofs.Read.{holds-rest, holds-room, holds-one, field-body, field-room, is-not}
 use Rattle.recheck.specs.declared.Question.{Question}
 use Rattle.recheck.specs.declared.Passed.the-variants.{To, Wrong}
-use Rattle.recheck.specs.Right.{Came, RightAt, to, wrong, ExplainAnswer, Deciding, Explained, Reasoned, Known}
+use Rattle.recheck.specs.Right.{Came, RightAt, to, wrong, ExplainAnswer, Assuring, Deciding, Explained, Reasoned, Known}
 use Rattle.recheck.specs.Lists.{Rising, Named, Serving, Sufficient}
-use Rattle.recheck.proofs.Lists.{rising-apart, rising-named, posed-kept}
+use Rattle.recheck.proofs.Lists.{rising-named, posed-kept}
 
 -- What stands at the front of the bytes from a place on stands at the place.
 pub record Found (P : List ℕ → Type 0) (report : List ℕ) (at : ℕ) : Type 0 where
@@ -156,7 +156,11 @@ module _ (w report : List ℕ) (at bytes : ℕ) (q : Question) where
           short = omega (arith, K .posed .past .loaded .few);
           named = λ i l. let r = rising-named (listOf w′) (bytes / 2) k rise i l in (r .0, omega (arith, r .1, K .early, K .posed .early));
         };
-        distinct = rising-apart (listOf w′) (bytes / 2) k rise;
+        few = omega (arith, K .posed .past .loaded .few);
+        ordered = listIn (bytes / 2) w′;
+        rising = rise .rising;
+        many = length-gather (listOf w′) (bytes / 2);
+        same = λ x. (λ m. m, λ m. m);
       }
 
       pub reason-served : {w″ : List ℕ} {answer : Bool} → Deciding (Sufficient w′ q (bytes / 2)) w′ w″ answer → Deciding (Reasoned w report at bytes q) w w″ answer
@@ -176,6 +180,35 @@ module _ (w report : List ℕ) (at bytes : ℕ) (q : Question) where
                   x .1 (rw (list-is r) at s),
             );
           }
+
+-- A reason that was found: where the bytes say it, they are those of a reason, and no test is left.
+pub own-few : {N : ℕ} {rs : List Rec} {R s t : ℕ} (n : ℕ) (w : List ℕ) → N ≤ 1000 → Reason N rs R s t (listIn n w) → n ≤ 1998
+own-few n w l r = omega (arith, r .short, length-gather (listOf w) n)
+
+module _ {w w′ report : List ℕ} {at bytes : ℕ} {q : Question} (f : Within 17003 32096 w w′) where
+  pub own-not : Assuring (Reasoned w report at bytes q) w w′ false
+  own-not = record { kept = f; sure = λ e. let z : _≡_ {A = ℕ} 0 1 = cc in absurd (omega arith) }
+
+  pub own-found : (n : ℕ) {answer : Bool} → 2 * n ≡ bytes → Reason (q .size) (recordsIn (q .len) w) (q .before) (q .s .0) (q .t .0) (listIn n w′)
+      → (answer ≡ true) ↔ Holds report at (numbers (listIn n w′)) → Assuring (Reasoned w report at bytes q) w w′ answer
+  own-found n e r h = record { kept = f; sure = λ t. record { list = listIn n w′; all = omega (arith, length-gather (listOf w′) n); stand = h .0 t; reason = r } }
+
+pub reason-sure : {A : Type 0} {w w′ : List ℕ} {answer : Bool} → Assuring A w w′ answer → answer ≡ true → Deciding A w w′ true
+reason-sure h e = record { kept = h .kept; exact = (λ t. h .sure e, λ a. refl) }
+
+-- Where they do not say it, the tests go on with the table that the finding left.
+pub known-kept : {w w′ : List ℕ} {q : Question} {k : ℕ} → Within 17003 32096 w w′ → Known w q k → Known w′ q k
+known-kept {q = q} f K = record { posed = posed-kept f (K .posed); early = K .early; first = rw (kept-records f (q .len)) (K .first) }
+
+pub reason-later : {w w′ w″ report : List ℕ} {at bytes : ℕ} {q : Question} {answer : Bool} → Within 17003 32096 w w′ → Deciding (Reasoned w′ report at bytes q) w′ w″ answer
+    → Deciding (Reasoned w report at bytes q) w w″ answer
+reason-later {q = q} f d = record {
+  kept = within-trans f (d .kept);
+  exact = (
+    λ t. let r = d .exact .0 t in record { list = r .list; all = r .all; stand = r .stand; reason = rw (kept-records f (q .len)) at (r .reason) },
+    λ r. d .exact .1 (record { list = r .list; all = r .all; stand = r .stand; reason = rw (kept-records f (q .len)) (r .reason) }),
+  );
+}
 
 -- The field of a reason.
 pub record Whole (report : List ℕ) (at kind size : ℕ) : Type 0 where

@@ -1,14 +1,15 @@
 -- The list of a reason in the table: whether it rises, and whether none of its numbers can be spared.
 -- Assumes nothing.
-use Prim.Native.Nat.{ℕ, _-_, _≤_, _<_}
+use Prim.Native.Nat.{ℕ, _≤_}
 use mathlib.Core.Path.{_≡_}
 use mathlib.Core.Logic.{_≢_, _↔_}
-use mathlib.Core.Bool.{Bool, true}
 use mathlib.Core.List.{List, List·Memᴰ}
+use lib.ListN.{length}
 use Rattle.meaning.specs.Following.{Rec, Follows, Only, Without}
 use Rattle.meaning.specs.Reasons.{Above, lastOf}
 use Rattle.table.specs.Map.{listOf, listIn, recordsIn, Within}
 use Rattle.closure.specs.Closing.{Listed}
+use Rattle.reasons.specs.Listing.{waitingIn}
 use Rattle.recheck.specs.declared.Question.{Question}
 use Rattle.recheck.specs.Right.{Posed}
 
@@ -16,10 +17,6 @@ use Rattle.recheck.specs.Right.{Posed}
 pub record Rising (L : List ℕ) (k : ℕ) : Type 0 where
   pub rising : Above 0 L
   pub last : lastOf 0 L ≡ k
-
--- No number stands twice among the first n.
-pub record Distinct (f : ℕ → ℕ) (n : ℕ) : Type 0 where
-  pub differ : (i j : ℕ) → i < j → j < n → f i ≢ f j
 
 -- Places i and j of a list were exchanged.
 pub record Swap (f g : ℕ → ℕ) (i j : ℕ) : Type 0 where
@@ -35,24 +32,26 @@ pub record Swapped (i j : ℕ) (w w′ : List ℕ) : Type 0 where
 pub record Arranged (n : ℕ) (w w′ : List ℕ) : Type 0 where
   pub kept : Within 17003 21003 w w′
   pub same : (x : ℕ) → List·Memᴰ x (listIn n w) ↔ List·Memᴰ x (listIn n w′)
-  pub distinct : Distinct (listOf w) n → Distinct (listOf w′) n
 
 -- The same, and p of its places at most are settled.
 pub record Brought (n p : ℕ) (w w′ : List ℕ) : Type 0 where
   pub within : p ≤ n
   pub arranged : Arranged n w w′
 
--- The list names records of the table, each once.
+-- The first n numbers of the list came to where those wait that are tried.
+pub record Moved (n : ℕ) (w w′ : List ℕ) : Type 0 where
+  pub kept : Within 17003 21003 w w′
+  pub is : waitingIn n w′ ≡ listIn n w
+
+-- The list names records of the table, each once: in rising order they are as many.
 pub record Named (w : List ℕ) (q : Question) (n : ℕ) : Type 0 where
   pub posed : Posed w q
   pub listed : Listed (q .size) (q .len) n w
-  pub distinct : Distinct (listOf w) n
-
--- Place i of the n was exchanged with the last of them, and whether the others alone make s and t equal.
-pub record Sparing (w w′ : List ℕ) (q : Question) (n i : ℕ) (answer : Bool) : Type 0 where
-  pub kept : Within 17003 32096 w w′
-  pub swap : Swap (listOf w) (listOf w′) i (n - 1)
-  pub exact : (answer ≡ true) ↔ Follows (Only (recordsIn (q .len) w) (listIn (n - 1) w′)) (q .s .0) (q .t .0)
+  pub few : n ≤ 1998
+  pub ordered : List ℕ
+  pub rising : Above 0 ordered
+  pub many : length ordered ≡ n
+  pub same : (x : ℕ) → List·Memᴰ x ordered ↔ List·Memᴰ x (listIn n w)
 
 -- None of the list's numbers can be spared.
 pub record Unspared (rs : List Rec) (s t : ℕ) (L : List ℕ) : Type 0 where
@@ -64,6 +63,9 @@ pub record Serving (rs : List Rec) (s t : ℕ) (L : List ℕ) : Type 0 where
   pub unspared : Unspared rs s t L
 
 -- The same of the first n numbers of the table's list, for the tags of the question.
+abbrev pub Entailed : List ℕ → Question → ℕ → Type 0
+Entailed w q n = Follows (Only (recordsIn (q .len) w) (listIn n w)) (q .s .0) (q .t .0)
+
 abbrev pub NoneSpare : List ℕ → Question → ℕ → Type 0
 NoneSpare w q n = Unspared (recordsIn (q .len) w) (q .s .0) (q .t .0) (listIn n w)
 

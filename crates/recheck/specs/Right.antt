@@ -55,6 +55,11 @@ pub record Deciding (A : Type 0) (w w′ : List ℕ) (answer : Bool) : Type 0 wh
   pub kept : Within 17003 32096 w w′
   pub exact : (answer ≡ true) ↔ A
 
+-- A test that is right where it says A, and writes only where a reason is looked for.
+pub record Assuring (A : Type 0) (w w′ : List ℕ) (answer : Bool) : Type 0 where
+  pub kept : Within 17003 32096 w w′
+  pub sure : answer ≡ true → A
+
 -- An explain was looked at.
 pub record Explained (w w′ report : List ℕ) (at : ℕ) (q : Question) (answer : Passed) : Type 0 where
   pub kept : Within 17003 32096 w w′

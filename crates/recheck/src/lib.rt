@@ -7,12 +7,13 @@ ghost use Prim.Native.Nat.{_+_, _≤_, _<_};
 ghost use lib.ListN.{length};
 ghost use Rattle.table.specs.Map.{listIn, recordsIn};
 ghost use Rattle.recheck.specs.Judging.{Judgeable, Judged};
-ghost use Rattle.recheck.specs.Right.{Posed, Came, RightAt, AskAnswer, question, Deciding, Explained, Reasoned, Known, Ended};
-ghost use Rattle.recheck.specs.Lists.{Rising, Swapped, Arranged, Brought, Named, Sparing, NoneSpare, Sufficient};
+ghost use Rattle.recheck.specs.Right.{Posed, Came, RightAt, AskAnswer, question, Assuring, Deciding, Explained, Reasoned, Known, Ended};
+ghost use Rattle.recheck.specs.Lists.{Rising, Swapped, Arranged, Brought, Moved, Named, Entailed, NoneSpare, Sufficient};
 ghost use Rattle.recheck.specs.Going.{Going, Advanced, behind};
 use job::Field;
 use meaning::RecordNo;
 use meaning::Tag;
+use reasons::Answer;
 use reasons::meeting::wide;
 use report::Front;
 
@@ -151,28 +152,27 @@ fn ended(report: &[u8], at: usize, classes: usize, idle: usize) -> Judgement
     }
 }
 
-// Whether the list without the number at place i makes s and t equal. That number comes to the last place, and the others keep their order.
-fn spare(work: &mut [u16], count: usize, i: usize, q: Question) -> bool
-    requires { ⌜ Named (now work) q count × (i < count) ⌝ }
-    ensures { λ r. ⌜ Sparing (now (work .entry)) (now (work .exit)) q count i r ⌝ }
+// The first numbers of the list come to where those wait that are tried.
+fn put_waiting(work: &mut [u16], count: usize)
+    requires { ⌜ (32768 ≤ length (now work)) × (count ≤ 2000) ⌝ }
+    ensures { λ _. ⌜ Moved count (now (work .entry)) (now (work .exit)) ⌝ }
 {
-    swap(work, i, count - 1);
-    closure::entails(work, q.size, q.len, count - 1, q.s, q.t)
+    let mut i = 0;
+    while i < count {
+        let r = table::listed(work, i);
+        table::put_listed(work, reasons::listing::WAITING + i, r);
+        i += 1;
+    }
 }
 
-// Whether no number of the list can be spared.
+// Whether no number of a list that makes s and t equal can be spared: trimming then leaves as many as there were.
 fn tight(work: &mut [u16], count: usize, q: Question) -> bool
-    requires { ⌜ Named (now work) q count ⌝ }
+    requires { ⌜ Named (now work) q count × Entailed (now work) q count ⌝ }
     ensures { λ r. ⌜ Deciding (NoneSpare (now (work .entry)) q count) (now (work .entry)) (now (work .exit)) r ⌝ }
 {
-    let mut i = count;
-    while i > 0 {
-        i -= 1;
-        if spare(work, count, i, q) {
-            return false;
-        }
-    }
-    true
+    put_waiting(work, count);
+    let kept = reasons::trimming::trim(work, q.size, q.len, count, q.s, q.t);
+    reasons::rising::put_rising(work, q.len, kept) == count
 }
 
 // Whether the list makes s and t equal, and none of its numbers can be spared.
@@ -237,8 +237,24 @@ fn serves(work: &mut [u16], count: usize, q: Question) -> bool
     suffices(work, count, q)
 }
 
-// Whether so many bytes at a place are the numbers of a reason, where `first` is the first k.
-fn is_reason(
+// Whether so many bytes at a place are the numbers of the reason that is found here. Another reason may stand there where they are not.
+fn is_own(report: &[u8], at: usize, bytes: usize, work: &mut [u16], q: Question) -> bool
+    requires { ⌜ Posed (now work) q × (at + bytes ≤ length (now report)) ⌝ }
+    ensures { λ r. ⌜ Assuring (Reasoned (now (work .entry)) (now (report .entry)) at bytes q) (now (work .entry)) (now (work .exit)) r ⌝ }
+{
+    match reasons::explain(work, q.size, q.len, q.joins, q.before, q.s, q.t) {
+        Answer::Apart => false,
+        Answer::Because(count) => {
+            if 2 * count != bytes {
+                return false;
+            }
+            report::is_list(report, at, work, count)
+        }
+    }
+}
+
+// Whether so many bytes at a place are numbers that meet each point of a reason, where `first` is the first k.
+fn meets(
     report: &[u8],
     at: usize,
     bytes: usize,
@@ -262,6 +278,25 @@ fn is_reason(
     } else {
         false
     }
+}
+
+// Whether so many bytes at a place are the numbers of a reason, where `first` is the first k. To find one costs no more than to test one,
+// so one that is found again is not tested.
+fn is_reason(
+    report: &[u8],
+    at: usize,
+    bytes: usize,
+    work: &mut [u16],
+    q: Question,
+    first: usize,
+) -> bool
+    requires { ⌜ Known (now work) q first × (at + bytes ≤ length (now report)) ⌝ }
+    ensures { λ r. ⌜ Deciding (Reasoned (now (work .entry)) (now (report .entry)) at bytes q) (now (work .entry)) (now (work .exit)) r ⌝ }
+{
+    if is_own(report, at, bytes, work, q) {
+        return true;
+    }
+    meets(report, at, bytes, work, q, first)
 }
 
 // Whether a reason stands at a place, where `first` is the first k.

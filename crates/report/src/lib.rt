@@ -202,3 +202,28 @@ pub fn read_reason(report: &[u8], at: usize, work: &mut [u16], count: usize)
         i += 1;
     }
 }
+
+// Whether the number at a place of the list stands at its place in a reason whose numbers begin at `at`.
+fn is_listed(report: &[u8], at: usize, work: &[u16], i: usize) -> bool
+    requires { ⌜ (32768 ≤ length (now work)) × (i < 4000) × (at + 2 * i + 2 ≤ length (now report)) ⌝ }
+    ensures { λ r. ⌜ (r ≡ true) ↔ Holds (now (report .entry)) (at + 2 * i) (two (listOf (now (work .entry)) i)) ⌝ }
+{
+    let r = table::listed(work, i);
+    number_in(report, at + 2 * i) == r.0
+}
+
+// Whether the first numbers of the list stand at a place, one behind the other.
+pub fn is_list(report: &[u8], at: usize, work: &[u16], count: usize) -> bool
+    requires { ⌜ (32768 ≤ length (now work)) × (count ≤ 4000) × (at + 2 * count ≤ length (now report)) ⌝ }
+    ensures { λ r. ⌜ (r ≡ true) ↔ Holds (now (report .entry)) at (numbers (listIn count (now (work .entry)))) ⌝ }
+{
+    let mut i = 0;
+    while i < count {
+        if is_listed(report, at, work, i) {
+            i += 1;
+        } else {
+            return false;
+        }
+    }
+    true
+}

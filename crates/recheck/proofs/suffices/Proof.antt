@@ -1,7 +1,7 @@
 -- `recheck::suffices` meets its contract: the closure decides whether the list entails, and then each number is left out once.
 -- Assumes nothing.
 use mathlib.Core.Path.{_∙_}
-use Rattle.recheck.proofs.Lists.{named-after, not-serving, serving}
+use Rattle.recheck.proofs.Lists.{named-after, entailed-after, not-serving, serving}
 use Rattle.recheck.proofs.suffices.Statement.{statement}
 use Rattle.recheck.proofs.suffices.Tie as tie
 
@@ -11,7 +11,8 @@ entails-requires c κs = let start = c .before .before in (start .pre .listed, s
 tight-requires : tie.Need-tight-requires
 tight-requires c κs =
     let start = c .before .before .before .before .before .before .before in
-    named-after (start .args .q) (c .before .before .before .before .entails .ensures) (start .pre)
+    let e = c .before .before .before .before .entails .ensures in
+    (named-after (start .args .q) e (start .pre), entailed-after (start .args .q) e (c .before .if1 .taken))
 
 same-length : tie.Need-same-length
 same-length c = c .before .before .tight .ensures .kept .size ∙ c .before .before .before .before .before .before .before .entails .ensures .kept .size

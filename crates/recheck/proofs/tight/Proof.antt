@@ -1,67 +1,32 @@
--- `recheck::tight` meets its contract. The loop's invariant: the list is the same set, its places below `i` are as they were, and no
--- number from place `i` on can be spared. Assumes nothing.
-use borrow.Author.Needs.{needs}
+-- `recheck::tight` meets its contract: trimming takes a number out exactly if one can be spared, and rising order counts each once.
+-- Assumes nothing.
 use native.Mathlib.Omega.{arith}
-use Prim.Native.Nat.{ℕ, _≤_}
-use mathlib.Core.Path.{_≡_, _∙_, subst}
-use denote.Ref.{now}
-use Rattle.recheck.proofs.Lists.{Leaving, leaving-all, leaving-next, leaving-stop, leaving-end}
+use mathlib.Core.Path.{_∙_}
+use Rattle.recheck.proofs.Lists.{tight-followed, tight-numbered, tight-decided}
 use Rattle.recheck.proofs.tight.Statement.{statement}
 use Rattle.recheck.proofs.tight.Tie as tie
 
-abbrev Inv-loop : tie.InvT-loop
-Inv-loop work₀ count q i₀ work i = (i ≤ count) × Leaving work₀ work q count i
+put-waiting-requires : tie.Need-put-waiting-requires
+put-waiting-requires c κs = let start = c .before .before in (start .pre .0 .posed .past .loaded .long, omega (arith, start .pre .0 .few))
 
-abbrev μ-loop : tie.MeasureT-loop
-μ-loop work₀ count q i₀ work i = i
+trim-requires : tie.Need-trim-requires
+trim-requires c κs =
+    let start = c .before .before .before .before .before .before in
+    tight-followed (start .pre .0) (c .before .before .before .put-waiting .ensures) (start .pre .1)
 
-loop-holds : tie.Need-loop-holds Inv-loop μ-loop
-loop-holds c = (omega arith, leaving-all (now (c .before .args .work)) (c .before .args .q) (c .before .args .count) (c .before .pre))
+put-rising-requires : tie.Need-put-rising-requires
+put-rising-requires c κs =
+    let start = c .before .before .before .before .before .before .before .before .before .before in
+    tight-numbered (start .pre .0) (c .before .before .before .before .before .before .before .put-waiting .ensures) (c .before .before .before .trim .ensures)
 
-sub-i : tie.Need-sub-i Inv-loop μ-loop
-sub-i c = search needs
+same-length : tie.Need-same-length
+same-length c = c .before .before .put-rising .ensures .kept .size ∙ c .before .before .before .before .before .before .trim .ensures .kept-in .size ∙ c .before .before .before .before .before .before .before .before .before .before .put-waiting .ensures .kept .size
 
-spare-requires : tie.Need-spare-requires Inv-loop μ-loop
-spare-requires c κs = let at = c .before .before .loop in (at .inv .1 .named, omega (arith, at .inv .0, c .before .loop-test .taken))
-
-same-length : tie.Need-same-length Inv-loop μ-loop
-same-length c = c .before .before .before .spare .ensures .kept .size ∙ c .before .before .before .before .before .before .loop .inv .1 .kept .size
-
-returns : tie.Need-returns Inv-loop μ-loop
+returns : tie.Need-returns
 returns c =
-    let at = c .before .before .before .before .before .before .loop in
-    leaving-stop (at .inv .1) (c .before .before .before .before .before .loop-test .taken) (at .inv .0) (c .before .before .before .spare .ensures) (c .if1 .taken)
-
-loop-less : tie.Need-loop-less Inv-loop μ-loop
-loop-less c = search needs
-
-loop-again : tie.Need-loop-again Inv-loop μ-loop
-loop-again c =
-    let at = c .before .before .before .before .before .before .loop in
-    (omega (arith, at .inv .0), leaving-next (at .inv .1) (c .before .before .before .before .before .loop-test .taken) (at .inv .0) (c .before .before .before .spare .ensures) (c .if1 .left))
-
-same-length-2 : tie.Need-same-length-2 Inv-loop μ-loop
-same-length-2 c = c .before .loop .inv .1 .kept .size
-
-returns-2 : tie.Need-returns-2 Inv-loop μ-loop
-returns-2 c =
-    let at = c .before .loop in
-    let start = c .before .before .before in
-    let e : at .i ≡ 0 = omega (arith, c .loop-test .left) in
-    leaving-end (subst (λ (i : ℕ). Leaving (now (start .args .work)) (at .work) (start .args .q) (start .args .count) i) e (at .inv .1))
+    let start = c .before .before .before .before .before .before .before .before .before .before .before .before .before in
+    tight-decided (start .pre .0) (c .before .before .before .before .before .before .before .before .before .before .put-waiting .ensures) (c .before .before .before .before .before .before .trim .ensures) (c .before .before .put-rising .ensures)
 
 pub tight-spec : {M : Type 1} → statement M
 tight-spec =
-    tie.close
-    (tie.spec
-    Inv-loop
-    μ-loop
-    loop-holds
-    sub-i
-    spare-requires
-    same-length
-    returns
-    loop-less
-    loop-again
-    same-length-2
-    returns-2)
+    tie.close (tie.spec put-waiting-requires trim-requires put-rising-requires same-length returns)
