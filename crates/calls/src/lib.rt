@@ -1,6 +1,7 @@
 // The tool's two calls for a caller that holds no record table: each lends one of its own, 4,000 places that are blank. Document 01, "What is
-// lent, and each refusal". No call here has a condition on its caller. Rests on haltzurme.
-ghost use Rattle.calls.specs.Plain.{RanAlone, RecheckedAlone};
+// lent, and each refusal". No call here has a condition on its caller. The `_over` calls lend places that all hold a record of the caller's
+// choice, for tests with a dirty table. Rests on haltzurme.
+ghost use Rattle.calls.specs.Plain.{RanOver, RecheckedOver, RanAlone, RecheckedAlone};
 use haltzurme::Answer;
 use haltzurme::Finding;
 use haltzurme::recheck;
@@ -8,28 +9,44 @@ use haltzurme::run;
 use meaning::Tag;
 use records::Record;
 
-// Answers a job: the report comes to the front of the room.
-pub fn run_job(job: &[u8], room: &mut [u8], work: &mut [u16]) -> Answer
-    ensures { λ r. ⌜ RanAlone (now (job .entry)) (now (room .entry)) (now (work .entry)) (r .number) (r .place) (r .length) (now (room .exit)) (now (work .exit)) ⌝ }
+// Answers a job: the report comes to the front of the room. Each place of the record table holds the same record.
+pub fn run_over(job: &[u8], room: &mut [u8], work: &mut [u16], each: Record) -> Answer
+    ensures { λ r. ⌜ RanOver each (now (job .entry)) (now (room .entry)) (now (work .entry)) (r .number) (r .place) (r .length) (now (room .exit)) (now (work .exit)) ⌝ }
 {
-    let mut records = [Record {
-        kind: 0,
-        a: Tag(0),
-        b: Tag(0),
-        c: Tag(0),
-    }; 4000];
+    let mut records = [each; 4000];
     run(job, room, &mut records, work)
 }
 
-// Rechecks a report.
-pub fn recheck_report(job: &[u8], report: &[u8], work: &mut [u16]) -> Finding
-    ensures { λ r. ⌜ RecheckedAlone (now (job .entry)) (now (report .entry)) (now (work .entry)) (r .number) (r .place) (now (work .exit)) ⌝ }
+// Answers a job with blank records in the table.
+pub fn run_job(job: &[u8], room: &mut [u8], work: &mut [u16]) -> Answer
+    ensures { λ r. ⌜ RanAlone (now (job .entry)) (now (room .entry)) (now (work .entry)) (r .number) (r .place) (r .length) (now (room .exit)) (now (work .exit)) ⌝ }
 {
-    let mut records = [Record {
+    let none = Record {
         kind: 0,
         a: Tag(0),
         b: Tag(0),
         c: Tag(0),
-    }; 4000];
+    };
+    run_over(job, room, work, none)
+}
+
+// Rechecks a report. Each place of the record table holds the same record.
+pub fn recheck_over(job: &[u8], report: &[u8], work: &mut [u16], each: Record) -> Finding
+    ensures { λ r. ⌜ RecheckedOver each (now (job .entry)) (now (report .entry)) (now (work .entry)) (r .number) (r .place) (now (work .exit)) ⌝ }
+{
+    let mut records = [each; 4000];
     recheck(job, report, &mut records, work)
+}
+
+// Rechecks a report with blank records in the table.
+pub fn recheck_report(job: &[u8], report: &[u8], work: &mut [u16]) -> Finding
+    ensures { λ r. ⌜ RecheckedAlone (now (job .entry)) (now (report .entry)) (now (work .entry)) (r .number) (r .place) (now (work .exit)) ⌝ }
+{
+    let none = Record {
+        kind: 0,
+        a: Tag(0),
+        b: Tag(0),
+        c: Tag(0),
+    };
+    recheck_over(job, report, work, none)
 }

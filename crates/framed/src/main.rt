@@ -1,19 +1,19 @@
 // framed: many jobs and reports in one process, for the comparison with the second program; compare/README.md, "Many jobs in one process", has the frames.
-// Before each call room and table are filled with rubbish that differs from call to call, and after it they are looked at: where they did not end as
-// document 01 says, "What is lent, and each refusal", a frame X tells of it. No contract says what is written: the second program judges that.
-// Rests on calls, job and console.
+// Before each call room and tables are filled with rubbish that differs from call to call, and after it room and work table are looked at: where they did
+// not end as document 01 says, "What is lent, and each refusal", a frame X tells of it. No contract says what is written: the second program judges that.
+// Rests on calls, records, job and console.
 ghost use mathlib.Core.Path.{_≡_};
-ghost use Prim.Native.Nat.{_≤_};
-use calls::recheck_report;
-use calls::run_job;
+use calls::recheck_over;
+use calls::run_over;
 use console::Got;
 use console::read_input;
 use console::write_error;
 use console::write_output;
-use console::write_output_front;
 use haltzurme::Answer;
 use job::Answer as Read;
 use job::read_job;
+use meaning::Tag;
+use records::Record;
 
 // Document 01's named places of the work table, and the room that tagcheck lends.
 const NAMED: usize = 32768;
@@ -97,6 +97,16 @@ fn step_of(salt: usize) -> u16 {
         1
     } else {
         0
+    }
+}
+
+// What stands in each place of the record table.
+fn record_of(salt: usize) -> Record {
+    Record {
+        kind: first_of(salt),
+        a: Tag(step_of(salt)),
+        b: Tag(first_of(salt)),
+        c: Tag(first_of(salt)),
     }
 }
 
@@ -223,7 +233,7 @@ fn put_length(n: usize) {
 fn recheck_at(job: &[u8], report: &[u8], work: &mut [u16], places: usize, salt: usize) {
     if places <= work.len() {
         soil_table(work, salt);
-        let found = recheck_report(job, report, &mut work[..places]);
+        let found = recheck_over(job, report, &mut work[..places], record_of(salt));
         tell(kept_table(work, zeros_after(found.number), salt));
         put_answer(b'C', found.number, found.place);
     }
@@ -233,11 +243,11 @@ fn recheck_at(job: &[u8], report: &[u8], work: &mut [u16], places: usize, salt: 
 fn run_at(job: &[u8], room: &mut [u8], work: &mut [u16], places: usize, salt: usize) -> Answer {
     soil_table(work, salt);
     if places <= work.len() {
-        let ran = run_job(job, room, &mut work[..places]);
+        let ran = run_over(job, room, &mut work[..places], record_of(salt));
         tell(kept_table(work, zeros_after(ran.number), salt));
         ran
     } else {
-        run_job(job, room, work)
+        run_over(job, room, work, record_of(salt))
     }
 }
 
@@ -308,7 +318,8 @@ fn needed(job: &[u8], most: usize) -> usize {
     }
 }
 
-// Every fourth job is answered with too little first: a byte of room less, a number of the table less, most of the table, most of the room.
+// Every fourth frame, where it is a job, is answered with too little first: a byte of room less, a number of the table less, most of the table
+// missing, most of the room missing.
 fn answer_poor(job: &[u8], room: &mut [u8], work: &mut [u16], need: usize, salt: usize) {
     let kind = salt % 16;
     if kind == 1 && need > 0 {

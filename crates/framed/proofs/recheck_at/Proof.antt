@@ -10,14 +10,17 @@ use lib.Seq.{length-take-le}
 soil-table-requires : tie.Need-soil-table-requires
 soil-table-requires c κs = search needs
 
-slice-relend-prefix-recheck-report : tie.Need-slice-relend-prefix-recheck-report
-slice-relend-prefix-recheck-report c = search needs
+slice-relend-prefix-recheck-over : tie.Need-slice-relend-prefix-recheck-over
+slice-relend-prefix-recheck-over c = search needs
 
-slice-aggregate-recheck-report : tie.Need-slice-aggregate-recheck-report
-slice-aggregate-recheck-report c = sym (length-take-le _ _ (omega arith))
+slice-aggregate-recheck-over : tie.Need-slice-aggregate-recheck-over
+slice-aggregate-recheck-over c = sym (length-take-le _ _ (omega arith))
 
-recheck-report-requires : tie.Need-recheck-report-requires
-recheck-report-requires c κs = search needs
+record-of-requires : tie.Need-record-of-requires
+record-of-requires c κs = search needs
+
+recheck-over-requires : tie.Need-recheck-over-requires
+recheck-over-requires c κs = search needs
 
 zeros-after-requires : tie.Need-zeros-after-requires
 zeros-after-requires c κs = search needs
@@ -45,9 +48,10 @@ recheck-at-spec =
     tie.close
     (tie.spec
     soil-table-requires
-    slice-relend-prefix-recheck-report
-    slice-aggregate-recheck-report
-    recheck-report-requires
+    slice-relend-prefix-recheck-over
+    slice-aggregate-recheck-over
+    record-of-requires
+    recheck-over-requires
     zeros-after-requires
     kept-table-requires
     tell-requires

@@ -10,14 +10,17 @@ use lib.Seq.{length-take-le}
 soil-table-requires : tie.Need-soil-table-requires
 soil-table-requires c κs = search needs
 
-slice-relend-prefix-run-job : tie.Need-slice-relend-prefix-run-job
-slice-relend-prefix-run-job c = search needs
+slice-relend-prefix-run-over : tie.Need-slice-relend-prefix-run-over
+slice-relend-prefix-run-over c = search needs
 
-slice-aggregate-run-job : tie.Need-slice-aggregate-run-job
-slice-aggregate-run-job c = sym (length-take-le _ _ (omega arith))
+slice-aggregate-run-over : tie.Need-slice-aggregate-run-over
+slice-aggregate-run-over c = sym (length-take-le _ _ (omega arith))
 
-run-job-requires : tie.Need-run-job-requires
-run-job-requires c κs = search needs
+record-of-requires : tie.Need-record-of-requires
+record-of-requires c κs = search needs
+
+run-over-requires : tie.Need-run-over-requires
+run-over-requires c κs = search needs
 
 zeros-after-requires : tie.Need-zeros-after-requires
 zeros-after-requires c κs = search needs
@@ -28,8 +31,11 @@ kept-table-requires c κs = search needs
 tell-requires : tie.Need-tell-requires
 tell-requires c κs = search needs
 
-run-job-requires-2 : tie.Need-run-job-requires-2
-run-job-requires-2 c κs = search needs
+record-of-requires-2 : tie.Need-record-of-requires-2
+record-of-requires-2 c κs = search needs
+
+run-over-requires-2 : tie.Need-run-over-requires-2
+run-over-requires-2 c κs = search needs
 
 same-length : tie.Need-same-length
 same-length c = search needs
@@ -54,13 +60,15 @@ run-at-spec =
     tie.close
     (tie.spec
     soil-table-requires
-    slice-relend-prefix-run-job
-    slice-aggregate-run-job
-    run-job-requires
+    slice-relend-prefix-run-over
+    slice-aggregate-run-over
+    record-of-requires
+    run-over-requires
     zeros-after-requires
     kept-table-requires
     tell-requires
-    run-job-requires-2
+    record-of-requires-2
+    run-over-requires-2
     same-length
     same-length-2
     returns
