@@ -10,7 +10,7 @@ use mathlib.Core.List.{List, [], _∷_, _++_, append-assoc}
 use lib.ListN.{length, length-append}
 use Rattle.meaning.specs.Following.{Rec, eq, app}
 use Rattle.job.specs.Items.{Item, noted, ask, explain, recordsOf, neededRoom}
-use Rattle.job.specs.Reading.{Field, bad, header, item, end, fieldAt, spanOf}
+use Rattle.job.specs.Reading.{Field, bad, header, item, end, fieldAt, spanOf, itemsIn}
 use Rattle.job.specs.Answer.{spanOfField}
 use Rattle.job.specs.Standing.{Tagged, Stands, Job, Met}
 use Rattle.job.proofs.Standing.{stands-item, stands-end, stands-first, stands-last, stands-within}
@@ -21,7 +21,7 @@ use Rattle.report.specs.Report.{Answers, Sound, passed, answered, laid}
 use Rattle.report.proofs.Fits.{roomFor, answers-fits}
 use Rattle.report.proofs.Laid.{length-laid, laid-none, laid-then}
 use Rattle.reasons.proofs.Kept.{kept-past, kept-records}
-use Rattle.answers.specs.Asking.{itemsIn, itemSaid, isEnd, Asking, Facing, Meeting, Answered, Stepped, passes, asks, explains, Midway, Told}
+use Rattle.answers.specs.Asking.{itemSaid, isEnd, Asking, Facing, Meeting, Answered, Stepped, passes, asks, explains, Midway, Told}
 
 -- What a field of the job leads to, by what it is.
 pub span-most : (f : Field) → spanOfField f ≤ 9

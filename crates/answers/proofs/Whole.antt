@@ -10,13 +10,14 @@ use Rattle.meaning.specs.Following.{UpTo}
 use Rattle.meaning.specs.Totals.{Classes, Idles}
 use Rattle.meaning.proofs.Laws.{idles-most}
 use Rattle.job.specs.Items.{recordsOf}
+use Rattle.job.specs.Reading.{itemsIn}
 use Rattle.table.specs.Map.{leftOf, rightOf, resultOf, recAt, recordsIn, Within}
 use Rattle.table.proofs.Frame.{seen-within, gather-same, length-gather, within-trans, within-wider}
 use Rattle.closure.specs.Closing.{Closing}
 use Rattle.report.specs.Report.{numbers, field, total, totals, laid}
 use Rattle.report.proofs.Bytes.{length-field, length-numbers}
 use Rattle.report.proofs.Laid.{length-laid, laid-front, laid-then}
-use Rattle.answers.specs.Asking.{itemsIn, Asking, Told, Ready, Responded}
+use Rattle.answers.specs.Asking.{Asking, Told, Ready, Responded}
 
 -- What is written behind the columns leaves the records.
 pub columns-kept : {e : ℕ} {w w′ : List ℕ} → Within 12003 e w w′ → (len : ℕ) → recordsIn len w′ ≡ recordsIn len w

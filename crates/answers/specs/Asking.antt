@@ -6,21 +6,13 @@ use mathlib.Core.Bool.{Bool, true, false}
 use mathlib.Core.List.{List, [], _++_}
 use lib.ListN.{length, drop}
 use Rattle.meaning.specs.Following.{Rec}
-use Rattle.job.specs.Items.{Item, noted, ask, explain, Reading, refused, accepted, recordsOf, neededRoom}
-use Rattle.job.specs.Reading.{Field, bad, header, item, end, spanOf, reading}
+use Rattle.job.specs.Items.{Item, noted, ask, explain, recordsOf, neededRoom}
+use Rattle.job.specs.Reading.{Field, bad, header, item, end, spanOf, itemsIn}
 use Rattle.job.specs.Standing.{Tagged, Stands, Job}
 use Rattle.table.specs.Map.{recordsIn, Loaded, Within}
 use Rattle.closure.specs.Past.{Past}
 use Rattle.report.specs.Report.{Answers, Sound, laid}
 use Rattle.report.proofs.Fits.{roomFor}
-
--- The items of a job: none where it is refused.
-abbrev pub itemsOf : Reading → List Item
-itemsOf (refused n p) = []
-itemsOf (accepted N items) = items
-
-abbrev pub itemsIn : List ℕ → List Item
-itemsIn job = itemsOf (reading job)
 
 -- The job stands as N tags and its items, and the table holds the past of its records.
 pub record Asking (job w : List ℕ) (N len joins : ℕ) : Type 0 where

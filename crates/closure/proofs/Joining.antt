@@ -1,19 +1,19 @@
 -- A join that is due, in theory: the labels stay sound and count one class fewer, and the log with its forest takes it in. Older moments do not
 -- change, since the new link is younger than they are and the new join stands behind theirs.
 -- Assumes nothing.
-use Prim.Native.Nat.{ℕ, zero, suc, _≤_, _<_}
+use Prim.Native.Nat.{ℕ, suc, _≤_, _<_}
 use native.Mathlib.Omega.{arith}
 use native.Mathlib.Decide.{ℕ-discrete}
 use mathlib.Core.Path.{_≡_, refl, sym, ap, _∙_, fun-ext}
 use mathlib.Core.Logic.{_⊎_, inl, inr}
-use mathlib.Core.Bool.{Bool, true, false}
 use mathlib.Core.List.{List, List·Memᴰ, List·Memᴰ·head, List·Memᴰ·tail, List·Memᴰ·append-cases}
 use lib.Dec.{leb}
 use borrow.Author.Tests.{lt-leb}
 use Rattle.meaning.specs.Following.{Rec, Follows, flip, chain, given, congruent, Only}
-use Rattle.meaning.specs.Joins.{Join, Why, Grounds, equation, applications, Joined, all, numbersOf, used, tick, count, put}
+use Rattle.meaning.specs.Joins.{Join, Why, Grounds, equation, applications, Joined, all, numbersOf, used, count, put}
 use Rattle.meaning.specs.Labels.{into}
 use Rattle.meaning.specs.Forest.{root}
+use Rattle.meaning.proofs.Count.{count-low}
 use Rattle.meaning.proofs.Log.{put-hit, put-miss, grounds-more, linked-same, used-same}
 use Rattle.meaning.proofs.Relabel.{into-hit, into-miss, count-same, agree-same, Ends}
 use Rattle.meaning.proofs.Forest.{root-up, root-labels, link-before, link-after, history-link}
@@ -45,14 +45,6 @@ sound-join {N} {rs} {L} {f} {j} lo hi s d e x = go (ℕ-discrete (f x) hi)
     go : Dec (f x ≡ hi) → Follows (Only rs L) x (into lo hi (f x))
     go (yes q) = rw (q, into-hit lo hi) (chain (rw q at (s x)) (bridge e))
     go (no q) = rw (into-miss lo hi (f x) q) (s x)
-
-count-low : (p : ℕ → Bool) (n : ℕ) → count p n ≤ n
-count-low p zero = omega arith
-count-low p (suc n) = go (p n) (count-low p n)
-  where
-    go : (b : Bool) → count p n ≤ n → tick b (count p n) ≤ suc n
-    go true h = omega arith
-    go false h = omega arith
 
 -- Only the first m joins matter to a settled state.
 settled-move : {rs : List Rec} {P : ℕ → Type 0} {e e′ : ℕ → Join} {m : ℕ} {f f′ : ℕ → ℕ} → ((a : ℕ) → a < m → e a ≡ e′ a) → f′ ≡ f → Settled rs P e m f → Settled rs P e′ m f′

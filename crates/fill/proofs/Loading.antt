@@ -3,21 +3,20 @@
 -- Assumes nothing.
 use Prim.Native.Nat.{ℕ, zero, suc, _+_, _≤_, _<_}
 use native.Mathlib.Omega.{arith}
-use mathlib.Core.Path.{_≡_, refl, _∙_, ap, subst}
-use mathlib.Core.Logic.{_≢_, inl, inr}
+use mathlib.Core.Path.{_≡_, refl, _∙_, ap}
+use mathlib.Core.Logic.{_≢_}
 use mathlib.Core.Bool.{Bool, true, false, cond}
 use mathlib.Core.List.{List, [], _∷_, _++_}
 use lib.Dec.{eqb}
 use borrow.Author.Tests.{eq-eqb, ne-eqb}
 use lib.ListN.{length, getD, set, length-set}
 use Rattle.meaning.specs.Following.{Rec, eq, app}
-use Rattle.meaning.specs.Joins.{put}
-use Rattle.meaning.proofs.Log.{put-hit, put-miss}
 use Rattle.meaning.proofs.Reference.{Small}
 use Rattle.records.specs.declared.Record.{Record}
 use Rattle.records.specs.Table.{blank, recOf}
-use Rattle.table.specs.Map.{leftOf, rightOf, resultOf, recAt, recordsIn, Within}
-use Rattle.table.proofs.Frame.{seen-in, seen-out, within-refl, within-trans, within-set, gather-same}
+use Rattle.table.specs.Map.{recAt, recordsIn, Within}
+use Rattle.table.proofs.Frame.{within-refl, within-trans, gather-same}
+use Rattle.table.proofs.Columns.{stored-within, record-other, record-here}
 use Rattle.fill.specs.Loading.{held, carry, Loadable, Carried}
 
 -- What the two arms of `load_one` leave is `carry`.
@@ -46,32 +45,13 @@ module _ (w : List ℕ) (i : ℕ) (p : Record) where
   length-carry = length-set w₂ (8002 + (i + 1)) res ∙ length-set w₁ (4001 + (i + 1)) (p .b .0) ∙ length-set w (i + 1) (p .a .0)
 
   module _ (long : 32768 ≤ length w) (few : i < 4000) where
-    carry-left : leftOf (carry w i p) ≡ put (i + 1) (p .a .0) (leftOf w)
-    carry-left =
-        seen-out 0 4001 (λ x. 0) w₂ (8002 + (i + 1)) res (inr (omega arith))
-        ∙ seen-out 0 4001 (λ x. 0) w₁ (4001 + (i + 1)) (p .b .0) (inr (omega arith))
-        ∙ (let e : 0 + (i + 1) ≡ i + 1 = omega arith in subst (λ (j : ℕ). leftOf (set w j (p .a .0)) ≡ put (i + 1) (p .a .0) (leftOf w)) e (seen-in 0 4001 (λ x. 0) w (i + 1) (p .a .0) (omega arith) (omega arith)))
-
-    carry-right : rightOf (carry w i p) ≡ put (i + 1) (p .b .0) (rightOf w)
-    carry-right =
-        seen-out 4001 4001 (λ x. 0) w₂ (8002 + (i + 1)) res (inr (omega arith))
-        ∙ seen-in 4001 4001 (λ x. 0) w₁ (i + 1) (p .b .0) (omega arith) (omega (arith, length-set w (i + 1) (p .a .0)))
-        ∙ ap (put (i + 1) (p .b .0)) (seen-out 4001 4001 (λ x. 0) w (i + 1) (p .a .0) (inl (omega arith)))
-
-    carry-result : resultOf (carry w i p) ≡ put (i + 1) res (resultOf w)
-    carry-result =
-        seen-in 8002 4001 (λ x. 0) w₂ (i + 1) res (omega arith) (omega (arith, length-set w₁ (4001 + (i + 1)) (p .b .0), length-set w (i + 1) (p .a .0)))
-        ∙ ap (put (i + 1) res) (seen-out 8002 4001 (λ x. 0) w₁ (4001 + (i + 1)) (p .b .0) (inl (omega arith)) ∙ seen-out 8002 4001 (λ x. 0) w (i + 1) (p .a .0) (inl (omega arith)))
-
     -- Another record stays.
     carry-other : (k : ℕ) → k ≢ i + 1 → recAt (carry w i p) k ≡ recAt w k
-    carry-other k q = rw (carry-left, carry-right, carry-result, put-miss (i + 1) (p .a .0) (leftOf w) k q, put-miss (i + 1) (p .b .0) (rightOf w) k q, put-miss (i + 1) res (resultOf w) k q)
+    carry-other k q = record-other w (i + 1) (p .a .0) (p .b .0) res (omega arith) long k q
 
     -- Its own is the one that the place means.
     carry-own : Small 1000 (recOf p) → recAt (carry w i p) (i + 1) ≡ recOf p
-    carry-own s =
-        rw (carry-left, carry-right, carry-result, put-hit (i + 1) (p .a .0) (leftOf w), put-hit (i + 1) (p .b .0) (rightOf w), put-hit (i + 1) res (resultOf w))
-        (go (eqb (p .kind) 1) s)
+    carry-own s = record-here w (i + 1) (p .a .0) (p .b .0) res (omega arith) long ∙ go (eqb (p .kind) 1) s
       where
         go : (b : Bool) → Small 1000 (cond b (eq (p .a .0) (p .b .0)) (app (p .a .0) (p .b .0) (p .c .0)))
             → cond (eqb (cond b 65535 (p .c .0)) 65535) (eq (p .a .0) (p .b .0)) (app (p .a .0) (p .b .0) (cond b 65535 (p .c .0))) ≡ cond b (eq (p .a .0) (p .b .0)) (app (p .a .0) (p .b .0) (p .c .0))
@@ -79,9 +59,7 @@ module _ (w : List ℕ) (i : ℕ) (p : Record) where
         go false s = rw (ne-eqb (p .c .0) 65535 (λ e. omega (arith, s .2)))
 
     carry-within : Within 0 12003 w (carry w i p)
-    carry-within =
-        within-trans (within-set 0 12003 w (i + 1) (p .a .0) (omega arith) (omega arith))
-        (within-trans (within-set 0 12003 w₁ (4001 + (i + 1)) (p .b .0) (omega arith) (omega arith)) (within-set 0 12003 w₂ (8002 + (i + 1)) res (omega arith) (omega arith)))
+    carry-within = stored-within w (i + 1) (p .a .0) (p .b .0) res (omega arith)
 
 module _ (n : ℕ) (t : List Record) (w : List ℕ) where
   pub length-loads : (i : ℕ) → length (loads t i w) ≡ length w

@@ -9,8 +9,8 @@ use mathlib.Core.List.{List}
 use lib.ListN.{length}
 use Rattle.meaning.specs.Following.{Rec, UpTo}
 use Rattle.meaning.specs.Totals.{Classes, Idles}
-use Rattle.job.specs.Items.{Item, Reading, accepted, recordsOf, neededRoom}
-use Rattle.job.specs.Reading.{reading}
+use Rattle.job.specs.Items.{Item, Reading, accepted, itemsOf, recordsOf, neededRoom}
+use Rattle.job.specs.Reading.{reading, itemsIn}
 use Rattle.job.specs.Standing.{Job}
 use Rattle.job.proofs.Standing.{accepted-stands}
 use Rattle.table.specs.Map.{recordsIn}
@@ -35,10 +35,10 @@ use Rattle.haltzurme.proofs.Clearing.{cleared-after}
 use Rattle.haltzurme.proofs.Whole.{Ready, looked-ready, viewed-ready}
 
 -- The needed room was compared.
-looked-fits : {job : List ℕ} {room : ℕ} {b : Bool} {n p N k : ℕ} → Looked job room b n p N k → b ≡ true → neededRoom N 0 (a.itemsIn job) ≤ room
+looked-fits : {job : List ℕ} {room : ℕ} {b : Bool} {n p N k : ℕ} → Looked job room b n p N k → b ≡ true → neededRoom N 0 (itemsIn job) ≤ room
 looked-fits (l.unread e) q = let z : _≡_ {A = ℕ} 0 1 = cc in absurd (omega arith)
 looked-fits (l.cramped e h) q = let z : _≡_ {A = ℕ} 0 1 = cc in absurd (omega arith)
-looked-fits {room = room} (l.ready {N = N} {items = items} e h) q = subst (λ (x : Reading). neededRoom N 0 (a.itemsOf x) ≤ room) (sym e) h
+looked-fits {room = room} (l.ready {N = N} {items = items} e h) q = subst (λ (x : Reading). neededRoom N 0 (itemsOf x) ≤ room) (sym e) h
 
 -- A refusal is as it was seen.
 looked-refused : {job room w w′ : List ℕ} {b : Bool} {n p N k : ℕ} → Looked job (length room) b n p N k → b ≡ false → Cleared w w′ → Finished job room w n p 0 room w′
@@ -62,8 +62,8 @@ module _ (job room w : List ℕ) (s : Sight) (h : Begun job room w s) where
     is : reading job ≡ accepted (s .size) (seen .items)
     is = seen .reads
 
-    same : a.itemsIn job ≡ seen .items
-    same = ap a.itemsOf is
+    same : itemsIn job ≡ seen .items
+    same = ap itemsOf is
 
     pub finish-asks : a.Ready job room w (s .size) (s .records)
     finish-asks = record {
@@ -93,11 +93,11 @@ module _ (job report w : List ℕ) (s : Sight) (h : Opened job w s) where
     reads : reading job ≡ accepted (s .size) (viewed .items)
     reads = viewed .reads
 
-    alike : g.itemsIn job ≡ viewed .items
-    alike = ap g.itemsOf reads
+    alike : itemsIn job ≡ viewed .items
+    alike = ap itemsOf reads
 
     module _ (w′ : List ℕ) (joins idle : ℕ) (d : Closing (s .size) (s .records) w w′ joins idle) where
-      held : recordsIn (s .records) w′ ≡ recordsOf (g.itemsIn job)
+      held : recordsIn (s .records) w′ ≡ recordsOf (itemsIn job)
       held = columns-kept (d .kept) (s .records) ∙ h .columns (s .size) (viewed .items) reads q ∙ ap recordsOf (sym alike)
 
       pub weigh-asks : Judgeable job w′ (s .size) (s .records) joins idle

@@ -15,6 +15,11 @@ pub data Reading : Type 0 where
   refused : ℕ → ℕ → Reading
   accepted : ℕ → List Item → Reading
 
+-- The items of what was read: none where it was refused.
+abbrev pub itemsOf : Reading → List Item
+itemsOf (refused n p) = []
+itemsOf (accepted N is) = is
+
 -- The records in the order they stand; their numbers, from 1, are their places in this list.
 abbrev pub recordsOf : List Item → List Rec
 recordsOf [] = []

@@ -7,7 +7,7 @@ use mathlib.Core.List.{List, [], _∷_}
 use lib.Dec.{eqb, ltb, leb}
 use lib.ListN.{length, getD}
 use Rattle.meaning.specs.Following.{eq, app}
-use Rattle.job.specs.Items.{Item, noted, ask, explain, Reading, refused, accepted}
+use Rattle.job.specs.Items.{Item, noted, ask, explain, Reading, refused, accepted, itemsOf}
 
 -- All numbers are two bytes, high byte first.
 abbrev pub byteAt : List ℕ → ℕ → ℕ
@@ -146,3 +146,7 @@ readFrom (suc n) job N R Q at = onward (readFrom n job) job N R Q at (checked N 
 -- The whole job, from its first byte. No N stands before the first field, which is the only one that needs none.
 unfoldable pub reading : List ℕ → Reading
 reading job = readFrom (suc (length job)) job 0 0 0 0
+
+-- The items of a job, as a function of its bytes.
+abbrev pub itemsIn : List ℕ → List Item
+itemsIn job = itemsOf (reading job)

@@ -5,7 +5,7 @@ use mathlib.Core.Path.{_≡_}
 use mathlib.Core.List.{List, [], _++_}
 use lib.ListN.{length, take, drop}
 use lib.Seq.{sets}
-use Rattle.job.specs.Items.{Item, Reading, refused, accepted}
+use Rattle.job.specs.Items.{Item, accepted}
 use Rattle.job.specs.Reading.{Field, bad, header, item, end, reading}
 use Rattle.lines.specs.Lines.{lineOf, widthOf, totalsLine}
 use Rattle.lines.specs.declared.Told.{Told}
@@ -46,11 +46,6 @@ widthAt (item i) report = widthOf i report
 widthAt end report = 0
 widthAt (bad n) report = 0
 widthAt (header N) report = 0
-
--- The items of a job that is accepted.
-abbrev pub itemsIn : Reading → List Item
-itemsIn (refused n p) = []
-itemsIn (accepted N items) = items
 
 pub record Accepted (job : List ℕ) : Type 0 where
   pub size : ℕ

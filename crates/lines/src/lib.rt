@@ -5,10 +5,10 @@ ghost use mathlib.Core.List.{[], _∷_, _++_};
 ghost use Prim.Native.Nat.{_+_, _≤_, _<_, min};
 ghost use lib.ListN.{length, getD};
 ghost use lib.Seq.{slice};
-ghost use Rattle.job.specs.Reading.{byteAt, numberAt, reading};
+ghost use Rattle.job.specs.Reading.{byteAt, numberAt, reading, itemsIn};
 ghost use Rattle.job.specs.Answer.{said};
 ghost use Rattle.lines.specs.Lines.{digits, parted, line, numbersIn, bodyOf, askLine, explainLine, totalsLine, linesOf, refusalLine, textOf};
-ghost use Rattle.lines.specs.Told.{Put, Tells, Ended, textAt, widthAt, itemsIn, Accepted};
+ghost use Rattle.lines.specs.Told.{Put, Tells, Ended, textAt, widthAt, Accepted};
 use job::Answer;
 use job::Field;
 use job::number_of;
@@ -243,7 +243,7 @@ fn passed(field: Field, report: &[u8]) -> usize
 // The lines of an accepted job: field after field of the job, from behind the first one, with the report's fields beside them.
 fn put_items(job: &[u8], report: &[u8], out: &mut [u8]) -> usize
     requires { ⌜ Accepted (now job) ⌝ }
-    ensures { λ r. ⌜ Put (linesOf (itemsIn (reading (now (job .entry)))) (now (report .entry))) (now (out .entry)) 0 (now (out .exit)) r ⌝ }
+    ensures { λ r. ⌜ Put (linesOf (itemsIn (now (job .entry))) (now (report .entry))) (now (out .entry)) 0 (now (out .exit)) r ⌝ }
 {
     let mut at = 5;
     let mut from = 0;

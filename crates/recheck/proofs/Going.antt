@@ -11,7 +11,7 @@ use Rattle.meaning.specs.Following.{Rec, UpTo}
 use Rattle.meaning.specs.Totals.{Classes, Idles}
 use Rattle.meaning.proofs.Laws.{classes-one, idles-one, classes-most, idles-most}
 use Rattle.job.specs.Items.{Item, noted, ask, explain, recordsOf}
-use Rattle.job.specs.Reading.{fieldAt, bad, header, item, end, spanOf}
+use Rattle.job.specs.Reading.{fieldAt, bad, header, item, end, spanOf, itemsIn}
 use Rattle.job.specs.Standing.{Tagged, Met}
 use Rattle.job.proofs.Standing.{stands-item, stands-end, stands-not-bad, stands-not-header, stands-within}
 use Rattle.table.specs.Map.{Within}
@@ -29,7 +29,7 @@ use Rattle.recheck.specs.declared.Passed.{Passed}
 use Rattle.recheck.specs.declared.Passed.the-variants.{To, Wrong}
 use Rattle.recheck.specs.declared.Stand.{Stand}
 use Rattle.recheck.specs.declared.Turn.the-variants.{On, Done}
-use Rattle.recheck.specs.Judging.{itemsIn, Judgeable, Verdict, sound, fault}
+use Rattle.recheck.specs.Judging.{Judgeable, Verdict, sound, fault}
 use Rattle.recheck.specs.Right.{Posed, RightAt, to, wrong, Ended, AskAnswer, ExplainAnswer, question}
 use Rattle.recheck.specs.Right as r
 use Rattle.recheck.specs.Going.{Going, Turned, on, done, behind as turnBehind}

@@ -5,6 +5,7 @@ use mathlib.Core.Path.{_≡_}
 use mathlib.Core.List.{List}
 use lib.ListN.{length, drop}
 use Rattle.job.specs.Items.{Item, recordsOf}
+use Rattle.job.specs.Reading.{itemsIn}
 use Rattle.job.specs.Standing.{Stands}
 use Rattle.table.specs.Map.{Within}
 use Rattle.report.specs.Report.{Sound}
@@ -16,7 +17,7 @@ use Rattle.recheck.specs.declared.Passed.the-variants.{To, Wrong}
 use Rattle.recheck.specs.declared.Stand.{Stand}
 use Rattle.recheck.specs.declared.Turn.{Turn}
 use Rattle.recheck.specs.declared.Turn.the-variants.{On, Done}
-use Rattle.recheck.specs.Judging.{itemsIn, Verdict}
+use Rattle.recheck.specs.Judging.{Verdict}
 
 -- The items that are left stand at the place in the job; the fields before the place in the report are right, so that what the bytes
 -- from there on are decides the whole.

@@ -3,12 +3,12 @@
 -- Assumes nothing.
 use Prim.Native.Nat.{ℕ, _-_}
 use mathlib.Core.Path.{_≡_}
-use mathlib.Core.List.{List, []}
+use mathlib.Core.List.{List}
 use lib.ListN.{length}
 use Rattle.meaning.specs.Following.{Rec, UpTo}
 use Rattle.meaning.specs.Totals.{Classes, Idles}
-use Rattle.job.specs.Items.{Item, Reading, refused, accepted, recordsOf}
-use Rattle.job.specs.Reading.{reading}
+use Rattle.job.specs.Items.{Item, recordsOf}
+use Rattle.job.specs.Reading.{itemsIn}
 use Rattle.job.specs.Standing.{Job}
 use Rattle.table.specs.Map.{recordsIn, Within}
 use Rattle.closure.specs.Past.{Past}
@@ -16,14 +16,6 @@ use Rattle.report.specs.Report.{Sound}
 use Rattle.report.specs.Fault.{FaultAt}
 use Rattle.recheck.specs.declared.Judgement.{Judgement}
 use Rattle.recheck.specs.declared.Judgement.the-variants as j
-
--- The items of a job that is accepted; a refused one has none.
-abbrev pub itemsOf : Reading → List Item
-itemsOf (refused n p) = []
-itemsOf (accepted N is) = is
-
-abbrev pub itemsIn : List ℕ → List Item
-itemsIn job = itemsOf (reading job)
 
 -- The job is accepted, and the table holds its records and what their closure left: the joins for every moment, and the totals.
 pub record Judgeable (job w : List ℕ) (N len joins idle : ℕ) : Type 0 where

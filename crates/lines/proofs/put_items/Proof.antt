@@ -9,18 +9,18 @@ use native.Mathlib.Omega.{arith}
 use lib.ListN.{length, take, drop, length-drop}
 use denote.Ref.{now}
 use borrow.Rule.Slice.PartAt.{part-to-end}
-use Rattle.job.specs.Reading.{reading, fieldAt}
+use Rattle.job.specs.Reading.{fieldAt, itemsIn}
 use Rattle.job.specs.Answer.{said, spanOfField}
 use Rattle.job.proofs.Standing.{accepted-stands}
 use Rattle.lines.proofs.Putting.{put-place, put-length, half-none, half-as}
 use Rattle.lines.specs.Lines.{linesOf}
-use Rattle.lines.specs.Told.{Put, textAt, widthAt, itemsIn}
+use Rattle.lines.specs.Told.{Put, textAt, widthAt}
 use Rattle.lines.proofs.Walking.{Walked, underway, walk-on, walk-falls, walk-done, span-small}
 use Rattle.lines.proofs.put_items.Statement.{statement}
 use Rattle.lines.proofs.put_items.Tie as tie
 
 abbrev Inv-loop : tie.InvT-loop
-Inv-loop job report out₀ at₀ from₀ next₀ out at from next = (from ≤ length report) × (next ≤ length out + 1) × (length out ≡ length out₀) × Walked job report (linesOf (itemsIn (reading job)) report) out₀ at from out next
+Inv-loop job report out₀ at₀ from₀ next₀ out at from next = (from ≤ length report) × (next ≤ length out + 1) × (length out ≡ length out₀) × Walked job report (linesOf (itemsIn job) report) out₀ at from out next
 
 abbrev μ-loop : tie.MeasureT-loop
 μ-loop job report out₀ at₀ from₀ next₀ out at from next = length job - at
@@ -28,7 +28,7 @@ abbrev μ-loop : tie.MeasureT-loop
 loop-holds : tie.Need-loop-holds Inv-loop μ-loop
 loop-holds c =
     let start = c .before .before .before in
-    let is : itemsIn (reading (now (start .args .job))) ≡ start .pre .items = rw (start .pre .reads) in
+    let is : itemsIn (now (start .args .job)) ≡ start .pre .items = rw (start .pre .reads) in
     (zero-le, zero-le, refl, underway (accepted-stands _ _ _ (start .pre .reads) .stands) (half-as (rw is) (half-none _ _ 0 zero-le)))
 
 read-requires : tie.Need-read-requires Inv-loop μ-loop

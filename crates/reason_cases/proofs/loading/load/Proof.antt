@@ -6,7 +6,7 @@ use mathlib.Core.Logic.{⊎-elim}
 use Prim.Native.Nat.{_-_}
 use lib.ListN.{length}
 use Rattle.table.specs.Map.{Loaded}
-use Rattle.reason_cases.proofs.Columns.{loaded-none}
+use Rattle.table.proofs.Columns.{loaded-none}
 use Rattle.reason_cases.proofs.loading.load.Statement.{statement}
 use Rattle.reason_cases.proofs.loading.load.Tie as tie
 

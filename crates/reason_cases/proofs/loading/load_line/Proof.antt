@@ -1,7 +1,7 @@
 -- `reason_cases::loading::load_line` meets its contract: a line that is left out changes nothing, and any other is one record more.
 -- Assumes nothing.
 use borrow.Author.Needs.{needs}
-use Rattle.reason_cases.proofs.Columns.{loaded-equation, loaded-application}
+use Rattle.table.proofs.Columns.{loaded-equation, loaded-application}
 use Rattle.reason_cases.proofs.loading.load_line.Statement.{statement}
 use Rattle.reason_cases.proofs.loading.load_line.Tie as tie
 
@@ -50,7 +50,8 @@ same-length c = search needs
 returns-4 : tie.Need-returns-4
 returns-4 c =
     let start = c .before .before .before .before .before .before .before .before .before .before .before .before .before .before in
-    loaded-equation (start .pre) (c .before .before .before .before .before .before .before .before .if1 .left) (c .before .before .before .before .before .before .before .before .before .before .before .nth .result) (c .before .before .before .before .before .before .before .before .before .before .nth2 .result) (c .before .before .before .before .before .before .before .if2 .left) (c .before .before .before .before .before .before .if3 .left) (c .before .before .put-equation .ensures)
+    let more = loaded-equation (start .pre) (c .before .before .before .before .before .before .before .before .if1 .left) (c .before .before .before .before .before .before .before .before .before .before .before .nth .result) (c .before .before .before .before .before .before .before .before .before .before .nth2 .result) (c .before .before .before .before .before .before .before .if2 .left) (c .before .before .before .before .before .before .if3 .left) (c .before .before .put-equation .ensures) in
+    (more .0, more .1 .size)
 
 returns-5 : tie.Need-returns-5
 returns-5 c = search needs
@@ -76,7 +77,8 @@ same-length-2 c = search needs
 returns-6 : tie.Need-returns-6
 returns-6 c =
     let start = c .before .before .before .before .before .before .before .before .before .before .before .before .before .before .before in
-    loaded-application (start .pre) (c .before .before .before .before .before .before .before .before .before .if1 .left) (c .before .before .before .before .before .before .before .before .before .before .before .before .nth .result) (c .before .before .before .before .before .before .before .before .before .before .before .nth2 .result) (c .before .before .before .before .before .before .before .before .if2 .left) (c .before .before .before .before .before .before .before .if3 .left) (c .before .before .before .before .before .before .before .before .before .before .nth3 .result) (c .before .before .before .before .if5 .left) (c .before .before .put-application .ensures)
+    let more = loaded-application (start .pre) (c .before .before .before .before .before .before .before .before .before .if1 .left) (c .before .before .before .before .before .before .before .before .before .before .before .before .nth .result) (c .before .before .before .before .before .before .before .before .before .before .before .nth2 .result) (c .before .before .before .before .before .before .before .before .before .before .nth3 .result) (c .before .before .before .before .before .before .before .before .if2 .left) (c .before .before .before .before .before .before .before .if3 .left) (c .before .before .before .before .if5 .left) (c .before .before .put-application .ensures) in
+    (more .0, more .1 .size)
 
 pub load-line-spec : {M : Type 1} → statement M
 load-line-spec =
