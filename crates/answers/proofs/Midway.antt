@@ -16,12 +16,13 @@ use Rattle.job.specs.Standing.{Tagged, Stands, Job, Met}
 use Rattle.job.proofs.Standing.{stands-item, stands-end, stands-first, stands-last, stands-within}
 use Rattle.table.specs.Map.{recordsIn, Within}
 use Rattle.table.proofs.Frame.{within-refl, within-trans}
-use Rattle.closure.specs.Past.{Past}
+use Rattle.history.specs.Past.{Past}
 use Rattle.report.specs.Report.{Answers, Sound, passed, answered, laid}
 use Rattle.report.proofs.Fits.{roomFor, answers-fits}
 use Rattle.report.proofs.Laid.{length-laid, laid-none, laid-then}
-use Rattle.reasons.proofs.Kept.{kept-past, kept-records}
-use Rattle.answers.specs.Asking.{itemSaid, isEnd, Asking, Facing, Meeting, Answered, Stepped, passes, asks, explains, Midway, Told}
+use Rattle.following.proofs.Kept.{kept-past, kept-records}
+use Rattle.one_answer.specs.Facing.{Facing, Answered}
+use Rattle.answers.specs.Asking.{itemSaid, isEnd, Asking, Meeting, Stepped, passes, asks, explains, Midway, Told}
 
 -- What a field of the job leads to, by what it is.
 pub span-most : (f : Field) → spanOfField f ≤ 9

@@ -13,7 +13,7 @@ use Rattle.job.specs.Items.{recordsOf}
 use Rattle.job.specs.Reading.{itemsIn}
 use Rattle.table.specs.Map.{leftOf, rightOf, resultOf, recAt, recordsIn, Within}
 use Rattle.table.proofs.Frame.{seen-within, gather-same, length-gather, within-trans, within-wider}
-use Rattle.closure.specs.Closing.{Closing}
+use Rattle.history.specs.Closing.{Closing}
 use Rattle.report.specs.Report.{numbers, field, total, totals, laid}
 use Rattle.report.proofs.Bytes.{length-field, length-numbers}
 use Rattle.report.proofs.Laid.{length-laid, laid-front, laid-then}
@@ -59,5 +59,5 @@ module _ {job room w : List ℕ} {N len : ℕ} (r : Ready job room w N len) {w�
           sound = t .sound f (totals (total (rw (← r .few, ← records-after) (c .classes)) (rw (← records-after) (c .idles))));
           size = rw (length-append, size, t .reached);
           front = e ∙ laid-then 0 end (t .bytes) f room room₁ (omega (arith, t .reached, t .fits)) (omega (arith, t .reached)) (t .front) ∙ laid-front (t .bytes ++ f) room;
-          kept = within-trans (within-wider 12003 32096 (omega arith) (omega arith) (c .kept)) (within-wider 12003 32096 (omega arith) (omega arith) (t .kept));
+          kept = within-trans (within-wider 12003 32768 (omega arith) (omega arith) (c .kept)) (within-wider 12003 32768 (omega arith) (omega arith) (t .kept));
         }

@@ -8,11 +8,11 @@ use lib.ListN.{length, drop}
 use Rattle.meaning.specs.Following.{Rec}
 use Rattle.job.specs.Items.{Item, noted, ask, explain, recordsOf, neededRoom}
 use Rattle.job.specs.Reading.{Field, bad, header, item, end, spanOf, itemsIn}
-use Rattle.job.specs.Standing.{Tagged, Stands, Job}
+use Rattle.job.specs.Standing.{Stands, Job}
 use Rattle.table.specs.Map.{recordsIn, Loaded, Within}
-use Rattle.closure.specs.Past.{Past}
-use Rattle.report.specs.Report.{Answers, Sound, laid}
-use Rattle.report.proofs.Fits.{roomFor}
+use Rattle.history.specs.Past.{Past}
+use Rattle.report.specs.Report.{Sound, laid}
+use Rattle.one_answer.specs.Facing.{Facing, Answered}
 
 -- The job stands as N tags and its items, and the table holds the past of its records.
 pub record Asking (job w : List ℕ) (N len joins : ℕ) : Type 0 where
@@ -21,21 +21,6 @@ pub record Asking (job w : List ℕ) (N len joins : ℕ) : Type 0 where
   pub few : len ≡ length (recordsOf (itemsIn job))
   pub records : recordsIn len w ≡ recordsOf (itemsIn job)
   pub past : Past N len w joins
-
--- An item is met after `before` records: the past stands, its tags are below N, and there is room for its field.
-pub record Facing (w room : List ℕ) (N len joins before out : ℕ) (i : Item) : Type 0 where
-  pub past : Past N len w joins
-  pub passed : before ≤ len
-  pub tags : Tagged N i
-  pub fits : out + roomFor N before i ≤ length room
-
--- A right field for the question was laid into the room at `out`; the past still stands.
-pub record Answered (w room : List ℕ) (N len before out : ℕ) (q : Item) (w′ room′ : List ℕ) (end : ℕ) : Type 0 where
-  pub field : List ℕ
-  pub right : Answers N (recordsIn len w) before q field
-  pub front : room′ ≡ laid out field room
-  pub reached : end ≡ out + length field
-  pub kept : Within 17003 32096 w w′
 
 -- What meeting an item leads to: a record is passed and a question answered.
 pub data Stepped (w room : List ℕ) (N len at out before : ℕ) : Item → ℕ → ℕ → ℕ → List ℕ → List ℕ → Type 0 where
@@ -101,4 +86,4 @@ pub record Responded (job room w : List ℕ) (N : ℕ) (room′ w′ : List ℕ)
   pub sound : Sound N (recordsOf (itemsIn job)) 0 (itemsIn job) bytes
   pub size : n ≡ length bytes
   pub front : room′ ≡ bytes ++ drop (length bytes) room
-  pub kept : Within 12003 32096 w w′
+  pub kept : Within 12003 32768 w w′

@@ -1,84 +1,26 @@
 // The questions of an accepted job, answered one after the other: each by the joins that were made before it, as a field of the
-// report. Document 01, "The job and the report". Rests on job, closure, reasons and report.
+// report. Document 01, "The job and the report". Rests on job, closure, report and one_answer.
 ghost use mathlib.Core.Path.{_≡_};
 ghost use Prim.Native.Nat.{ℕ, _+_, _*_, _-_, _≤_, _<_, min};
 ghost use lib.ListN.{length};
-ghost use Rattle.job.specs.Items.{ask, neededRoom};
-ghost use Rattle.job.specs.Items.{explain as explains};
+ghost use Rattle.job.specs.Items.{neededRoom};
 ghost use Rattle.job.specs.Reading.{itemsIn};
 ghost use Rattle.job.specs.Answer.{said};
-ghost use Rattle.answers.specs.Asking.{itemSaid, isEnd, Asking, Facing, Meeting, Answered, Stepped, Told, Ready, Responded};
-use closure::close;
+ghost use Rattle.answers.specs.Asking.{itemSaid, isEnd, Asking, Meeting, Stepped, Told, Ready, Responded};
+use history::close;
 use job::Field;
 use job::read;
 use job::span;
-use meaning::Tag;
-use reasons::Answer;
-use reasons::explain;
-use reasons::meeting::age_after;
-use reasons::meeting::leader;
-use report::write_apart;
-use report::write_led;
-use report::write_reason;
+use one_answer::Closed;
+use one_answer::answer_ask;
+use one_answer::answer_explain;
 use report::write_totals;
-
-// What is asked about: N tags, so many records, and the joins they led to.
-pub struct Closed {
-    pub size: usize,
-    pub len: usize,
-    pub joins: usize,
-}
 
 // How far the answers have come: the place in the job, the place in the room, and the records passed.
 pub struct Spot {
     pub at: usize,
     pub out: usize,
     pub before: usize,
-}
-
-// The leaders of two tags, as a field at a place of the room; the place behind it.
-fn answer_ask(
-    room: &mut [u8],
-    work: &[u16],
-    c: Closed,
-    before: usize,
-    out: usize,
-    s: Tag,
-    t: Tag,
-) -> usize
-    requires { ⌜ Facing (now work) (now room) (c .size) (c .len) (c .joins) before out (ask (s .0) (t .0)) ⌝ }
-    ensures { λ end. ⌜ Answered (now (work .entry)) (now (room .entry)) (c .size) (c .len) before out (ask (s .0) (t .0)) (now (work .entry)) (now (room .exit)) end ⌝ }
-{
-    let age = age_after(work, c.joins, before);
-    let l = leader(work, age, s);
-    let m = leader(work, age, t);
-    write_led(room, out, l, m);
-    out + 7
-}
-
-// Why two tags are equal, or that they are not, as a field at a place of the room; the place behind it.
-fn answer_explain(
-    room: &mut [u8],
-    work: &mut [u16],
-    c: Closed,
-    before: usize,
-    out: usize,
-    s: Tag,
-    t: Tag,
-) -> usize
-    requires { ⌜ Facing (now work) (now room) (c .size) (c .len) (c .joins) before out (explains (s .0) (t .0)) ⌝ }
-    ensures { λ end. ⌜ Answered (now (work .entry)) (now (room .entry)) (c .size) (c .len) before out (explains (s .0) (t .0)) (now (work .exit)) (now (room .exit)) end ⌝ }
-{
-    match explain(work, c.size, c.len, c.joins, before, s, t) {
-        Answer::Because(count) => {
-            write_reason(room, out, work, count);
-            out + 3 + 2 * count
-        }
-        Answer::Apart => {
-            write_apart(room, out);
-            out + 3
-        }
-    }
 }
 
 // One field of the job: a record is passed, a question answered.

@@ -1,10 +1,7 @@
-pub mod Chain
-pub mod Loops
 pub mod Rows
-pub mod Joining
 pub mod Views
 pub mod Saving
 pub mod Uniting
 pub mod Steps
-pub mod Moments
+pub mod Resting
 pub mod Singles

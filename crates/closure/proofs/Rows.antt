@@ -3,29 +3,19 @@
 -- Assumes nothing.
 use Prim.Native.Nat.{ℕ, suc, _+_, _-_, _*_, _≤_, _<_}
 use native.Mathlib.Omega.{arith}
-use mathlib.Core.Path.{_≡_, refl, sym, _∙_}
-use mathlib.Core.Bool.{Bool, true, false, cond}
+use mathlib.Core.Path.{_≡_, sym, _∙_}
+use mathlib.Core.Bool.{Bool, false}
 use mathlib.Core.List.{List, List·Memᴰ}
-use Rattle.meaning.specs.Following.{Rec, eq, app, At, Only}
+use Rattle.meaning.specs.Following.{eq, app, At, Only}
 use Rattle.meaning.proofs.Close.{Closed, closed-by}
 use Rattle.meaning.proofs.Reference.{Small}
 use Rattle.table.specs.Map.{leftOf, rightOf, resultOf, listOf, labelOf, recAt, recordsIn, listIn}
 use Rattle.table.proofs.Frame.{length-gather, getD-gather, gather-in, in-gather}
-use Rattle.closure.specs.Chain.{look}
+use Rattle.labels.specs.Chain.{look}
+use Rattle.labels.specs.Parts.{width, nextIn, headIn, Readable}
+use Rattle.labels.proofs.Rows.{left-small, right-small, result-small, at-rec, eq-parts, app-parts}
 use Rattle.closure.specs.Closing.{Listed}
-use Rattle.closure.specs.State.{eqnOf, keyOf, resOf, width, nextIn, headIn, Valid, Readable}
-
-module _ (N : ℕ) where
-  left-small : (b : Bool) (l r s : ℕ) → Small N (cond b (eq l r) (app l r s)) → l < N
-  left-small true l r s h = h .0
-  left-small false l r s h = h .0
-
-  right-small : (b : Bool) (l r s : ℕ) → Small N (cond b (eq l r) (app l r s)) → r < N
-  right-small true l r s h = h .1
-  right-small false l r s h = h .1
-
-  result-small : (b : Bool) (l r s : ℕ) → b ≡ false → Small N (cond b (eq l r) (app l r s)) → s < N
-  result-small b l r s e h = (rw e at h) .2
+use Rattle.closure.specs.State.{eqnOf, keyOf, resOf, Valid}
 
 module _ {N len n : ℕ} {w : List ℕ} (h : Listed N len n w) (i : ℕ) (l : i < n) where
   number : listOf w i ≡ suc (listOf w i - 1)
@@ -67,20 +57,6 @@ module _ {N len n : ℕ} {w : List ℕ} (h : Listed N len n w) (i : ℕ) (l : i 
     stands = rw (length-gather (λ k. recAt w (suc k)) len) low;
     is = getD-gather (λ k. recAt w (suc k)) len (listOf w i - 1) (eq 0 0) low ∙ rw (← number);
   }
-
--- What stands in the columns is the record.
-at-rec : (len : ℕ) (w : List ℕ) (k : ℕ) (r : Rec) → At (recordsIn len w) k r → recAt w k ≡ r
-at-rec len w k r a =
-    let l : a .place < len = rw (length-gather (λ k. recAt w (suc k)) len) at (a .stands) in
-    rw (a .number) (sym (getD-gather (λ k. recAt w (suc k)) len (a .place) (eq 0 0) l) ∙ a .is)
-
-eq-parts : (b : Bool) (l r s x y : ℕ) → cond b (eq l r) (app l r s) ≡ eq x y → (b ≡ true) × (l ≡ x) × (r ≡ y)
-eq-parts true l r s x y e = (refl, cc, cc)
-eq-parts false l r s x y e = let z : _≡_ {A = ℕ} 0 1 = cc in absurd (omega arith)
-
-app-parts : (b : Bool) (l r s x y z : ℕ) → cond b (eq l r) (app l r s) ≡ app x y z → ((b ≡ false) × (l ≡ x)) × ((r ≡ y) × (s ≡ z))
-app-parts true l r s x y z e = let z : _≡_ {A = ℕ} 0 1 = cc in absurd (omega arith)
-app-parts false l r s x y z e = ((refl, cc), (cc, cc))
 
 pub valid-closed : {N len n : ℕ} {few : Bool} {w : List ℕ} → Listed N len n w → Valid few w n → Closed (Only (recordsIn len w) (listIn n w)) (labelOf w)
 valid-closed {N} {len} {n} {few} {w} h v = closed-by (labelOf w) own (λ a b i. equal a b i) (λ a b c i. agree a b c i)

@@ -6,12 +6,11 @@ use native.Mathlib.Omega.{arith}
 use mathlib.Core.Path.{_≡_}
 use mathlib.Core.Logic.{inr}
 use mathlib.Core.List.{List}
-use Rattle.meaning.specs.Following.{Follows, Those}
 use Rattle.meaning.proofs.Close.{more-of}
-use Rattle.table.specs.Map.{savedOf, recordsIn, Within}
+use Rattle.table.specs.Map.{savedOf, Within}
 use Rattle.table.proofs.Frame.{seen-within}
+use Rattle.labels.proofs.Views.{records-same}
 use Rattle.closure.specs.Closing.{Saved}
-use Rattle.closure.proofs.Views.{records-same}
 
 pub saved-more : {N len joins : ℕ} {P Q : ℕ → Type 0} {w : List ℕ} → ((k : ℕ) → P k → Q k) → Saved N len P w joins → Saved N len Q w joins
 saved-more h s = record { labels = s .labels; sound = λ x. more-of h (s .sound x); total = s .total; own = s .own }

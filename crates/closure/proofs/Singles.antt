@@ -4,21 +4,22 @@ use Prim.Native.Nat.{ℕ, suc, _+_, _*_, _%_, _≤_, _<_}
 use native.Mathlib.Omega.{arith}
 use native.Mathlib.Numerals.{add-one}
 use mathlib.Core.Path.{_≡_, refl, sym, ap, _∙_}
-use mathlib.Core.Logic.{_≢_, inl, inr}
-use mathlib.Core.Bool.{Bool, true, false}
+use mathlib.Core.Logic.{_≢_, inl}
+use mathlib.Core.Bool.{true, false}
 use mathlib.Core.List.{List}
 use lib.Dec.{leb}
 use lib.ListN.{length, set}
 use Rattle.meaning.specs.Joins.{put}
 use Rattle.table.specs.Map.{leftOf, rightOf, listOf, labelOf, savedOf, headOf, Within}
 use Rattle.table.proofs.Frame.{seen-within, within-trans, within-wider}
+use Rattle.labels.specs.Chain.{look}
+use Rattle.labels.specs.Parts.{reach, width, nextIn, headIn, Cleared, Restored}
+use Rattle.labels.proofs.Chain.{chains-none, filled-none, below, chains-insert, filled-insert}
+use Rattle.labels.proofs.Views.{bucket-low, head-is, few-room, lefts, rights, put-frame, put-heads, put-nexts}
 use Rattle.closure.specs.declared.Task.{Task}
-use Rattle.closure.specs.Chain.{look}
 use Rattle.closure.specs.Closing.{Listed, Telling}
-use Rattle.closure.specs.State.{keyOf, reach, width, nextIn, headIn, apart, Cleared, Restored, Singled}
-use Rattle.closure.proofs.Chain.{chains-none, filled-none, below, chains-insert, filled-insert}
-use Rattle.closure.proofs.Views.{bucket-low, head-is, few-room, lefts, rights, keys-same, listed-same}
-use Rattle.closure.proofs.Steps.{put-frame, put-heads, put-nexts}
+use Rattle.closure.specs.State.{keyOf, apart, Singled}
+use Rattle.closure.proofs.Views.{keys-same, listed-same}
 
 pub alone-room : {N len n : ℕ} {t : Task} → t ≡ apart N len n (leb n 60) → n ≤ 4000 → t .places ≤ reach (t .few)
 alone-room {n = n} e l = rw e (few-room n l)

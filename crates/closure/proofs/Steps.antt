@@ -1,50 +1,61 @@
--- A record is met: an equation or an application whose labels agree leaves the table valid, one whose labels differ has a due join, and an application that
+-- A record is met: an equation or an application whose labels agree leaves the table valid, one whose labels differ is joined, and an application that
 -- is not found goes to the head of its chain. A join leaves the chains well formed, though the labels that they are keyed by have changed.
 -- Assumes nothing.
-use Prim.Native.Nat.{ℕ, suc, _+_, _-_, _*_, _%_, _≤_, _<_}
+use Prim.Native.Nat.{ℕ, suc, _+_, _-_, _%_, _≤_, _<_}
 use native.Mathlib.Omega.{arith}
 use native.Mathlib.Numerals.{add-one}
-use mathlib.Core.Path.{_≡_, refl, sym, ap, _∙_, fun-ext}
-use mathlib.Core.Logic.{_≢_, inl, inr}
+use mathlib.Core.Path.{_≡_, sym, _∙_, fun-ext}
+use mathlib.Core.Logic.{_≢_, inl}
 use mathlib.Core.Bool.{Bool, true, false}
-use mathlib.Core.List.{List, List·Memᴰ·eq-of-singleton, List·Memᴰ·cases-cons}
+use mathlib.Core.List.{List}
 use lib.Dec.{eqb}
-use borrow.Author.Tests.{ne-eqb}
-use lib.ListN.{length, set, length-set}
-use Rattle.meaning.specs.Following.{app}
-use Rattle.meaning.specs.Joins.{cong, equation, applications, put}
-use Rattle.table.specs.Map.{leftOf, rightOf, resultOf, listOf, labelOf, headOf, joinBy, Within}
-use Rattle.table.proofs.Frame.{seen-in, seen-out, within-refl, within-trans, within-set}
+use lib.ListN.{set}
+use Rattle.meaning.specs.Following.{app, Follows, flip, chain, given, congruent, Only}
+use Rattle.meaning.specs.Joins.{put}
+use Rattle.table.specs.Map.{leftOf, rightOf, resultOf, listOf, labelOf, headOf, recordsIn, listIn, Within}
+use Rattle.table.proofs.Frame.{seen-within, within-refl, within-trans, within-wider}
+use Rattle.labels.specs.Chain.{seekTo, hits, look, Chains}
+use Rattle.labels.specs.Parts.{Cleared, reach, width, nextTo, nextIn, headIn}
+use Rattle.labels.proofs.Chain.{chains-none, filled-none, chains-up, below, look-hit, filled-pass, filled-skip, chains-insert, filled-insert}
+use Rattle.labels.proofs.Rows.{split-key}
+use Rattle.labels.proofs.Views.{bucket-low, head-is, cut-falls, seek-cut, results, put-frame, put-heads, put-nexts}
 use Rattle.closure.specs.declared.Task.{Task}
-use Rattle.closure.specs.Chain.{seekTo, hits, look, Chains}
-use Rattle.closure.specs.State.{State, Kept, Valid, Joining, Joined, Stepping, Stepped, Unifying, Passed, Cleared, eqnOf, keyOf, resOf, reach, width, nextTo, nextIn, headIn}
-use Rattle.closure.proofs.Chain.{chains-none, filled-none, chains-up, below, look-hit, filled-pass, filled-skip, chains-insert, filled-insert}
+use Rattle.closure.specs.State.{State, Valid, Joining, Joined, Stepping, Stepped, Unifying, Passed, eqnOf, keyOf, resOf}
 use Rattle.closure.proofs.Rows.{row-left, row-right, row-result, row-in, row-at}
-use Rattle.closure.proofs.Views.{bucket-low, reach-most, width-most, head-is, cut-falls, seek-cut, wide-frame, results, chains-state, chains-kept, eqns-same, keys-same, ress-same, equals-same}
-
-pub kept-refl : (b : Bool) (w : List ℕ) → Kept b w w
-kept-refl b w = record { frame = within-refl w; list = refl }
-
-pub kept-trans : {b : Bool} {w w′ w″ : List ℕ} → Kept b w w′ → Kept b w′ w″ → Kept b w w″
-kept-trans f g = record { frame = within-trans (f .frame) (g .frame); list = g .list ∙ f .list }
-
-pub kept-eqns : (b : Bool) {w w′ : List ℕ} → Kept b w w′ → eqnOf w′ ≡ eqnOf w
-kept-eqns b k = fun-ext (λ j. rw (results (wide-frame b (k .frame)), k .list))
+use Rattle.closure.proofs.Views.{chains-state, chains-kept, eqns-same, keys-same, ress-same, equals-same}
 
 -- After a join.
-pub joined-stepped : {t : Task} {w w′ : List ℕ} {i n : ℕ} → Stepping t w i n → Joined t w w′ n → Stepped t w i n w′ (n + 1)
+pub joined-stepped : {t : Task} {w w′ : List ℕ} {i n : ℕ} → Stepping t w i n → Joined t w w′ → Stepped t w i n w′ (n + 1)
 joined-stepped {t} {w} {w′} {i} {n} s j = record {
-  state = rw add-one (j .state);
+  state = rw add-one (j .state n (s .state));
   kept = j .kept;
-  chains = rw (kept-eqns (t .keep) (j .kept), j .heads, j .nexts) (chains-up (omega arith) (s .chains));
+  chains = rw (eqns, j .heads, j .nexts) (chains-up (omega arith) (s .chains));
   more = omega arith;
   valid = λ e. absurd (omega arith);
+}
+  where
+    wide : Within 12003 30096 w w′
+    wide = within-wider 12003 30096 (omega arith) (omega arith) (j .kept)
+
+    eqns : eqnOf w′ ≡ eqnOf w
+    eqns = fun-ext (λ i. rw (results wide, seen-within 17003 4000 (λ x. 0) (j .kept) (inl (omega arith))))
+
+-- Two tags that are equal by the list's records and whose labels differ.
+due : {t : Task} {w : List ℕ} {n : ℕ} → State t w n → (x y : ℕ) → x < t .size → y < t .size → Follows (Only (recordsIn (t .len) w) (listIn (t .places) w)) x y
+    → (a b : ℕ) → a ≡ labelOf w x → b ≡ labelOf w y → a ≢ b → Joining t w a b
+due {t} {w} s x y l k h a b ea eb d = record {
+  listed = s .listed;
+  own = s .own;
+  tags = (rw ea (omega (arith, s .labels .low x)), rw eb (omega (arith, s .labels .low y)));
+  labels = (rw ea (s .labels .flat x), rw eb (s .labels .flat y));
+  apart = d;
+  follows = rw (ea, eb) (chain (flip (s .sound x)) (chain h (s .sound y)));
 }
 
 module _ {t : Task} {w : List ℕ} {i n : ℕ} (s : Stepping t w i n) where
   -- Nothing is written where the labels agree.
   stay : (Valid (t .few) w i → Valid (t .few) w (suc i)) → Stepped t w i n w n
-  stay v = record { state = s .state; kept = kept-refl (t .keep) w; chains = chains-up (omega arith) (s .chains); more = omega arith; valid = λ e. v }
+  stay v = record { state = s .state; kept = within-refl w; chains = chains-up (omega arith) (s .chains); more = omega arith; valid = λ e. v }
 
   pub equate-stay : eqnOf w i ≡ true → (k : ℕ) → k ≡ listOf w i → labelOf w (leftOf w k) ≡ labelOf w (rightOf w k) → Stepped t w i n w n
   equate-stay q k ek e = stay (λ v. record {
@@ -52,21 +63,10 @@ module _ {t : Task} {w : List ℕ} {i n : ℕ} (s : Stepping t w i n) where
     equal = below (λ j. eqnOf w j ≡ true → labelOf w (leftOf w (listOf w j)) ≡ labelOf w (rightOf w (listOf w j))) i (v .equal) (λ r. rw ek at e);
   })
 
-  pub equate-due : eqnOf w i ≡ true → (k a b : ℕ) → k ≡ listOf w i → a ≡ labelOf w (leftOf w k) → b ≡ labelOf w (rightOf w k) → a ≢ b → Joining t w n k 0 a b
-  equate-due q k a b ek ea eb d = rw ek (record {
-    state = s .state;
-    some = omega (arith, s .place);
-    due = record {
-      tags = (row-left (s .state .listed) i (s .place), row-right (s .state .listed) i (s .place));
-      grounds = equation (rw q at (row-at (s .state .listed) i (s .place)));
-      within = λ m h. rw (List·Memᴰ·eq-of-singleton h) (row-in (s .state .listed) i (s .place));
-    };
-    apart = d;
-    ends = inl (rw (← ek) (sym ea), rw (← ek) (sym eb));
-  })
-
-split-key : (a b c d : ℕ) → b < 65536 → d < 65536 → a * 65536 + b ≡ c * 65536 + d → (a ≡ c) × (b ≡ d)
-split-key a b c d lb ld e = omega arith
+  pub equate-due : eqnOf w i ≡ true → (k a b : ℕ) → k ≡ listOf w i → a ≡ labelOf w (leftOf w k) → b ≡ labelOf w (rightOf w k) → a ≢ b → Joining t w a b
+  equate-due q k a b ek ea eb =
+      let h = s .state .listed in
+      due (s .state) (leftOf w (listOf w i)) (rightOf w (listOf w i)) (row-left h i (s .place)) (row-right h i (s .place)) (given (listOf w i, row-in h i (s .place), rw q at (row-at h i (s .place)))) a b (rw ek at ea) (rw ek at eb)
 
 -- The application that the table has for the key.
 module _ {t : Task} {w : List ℕ} {p i n : ℕ} (u : Unifying t w p i n) where
@@ -92,44 +92,17 @@ module _ {t : Task} {w : List ℕ} {p i n : ℕ} (u : Unifying t w p i n) where
   args = split-key (labelOf w (leftOf w (listOf w (p - 1)))) (labelOf w (rightOf w (listOf w (p - 1)))) (labelOf w (leftOf w (listOf w i))) (labelOf w (rightOf w (listOf w i)))
       (right-fits (p - 1) unify-low) (right-fits i (u .step .place)) (hit .0)
 
-  pair : joinBy w (listOf w (p - 1)) (listOf w i) ≡ record { u = resultOf w (listOf w (p - 1)); v = resultOf w (listOf w i); why = cong (listOf w (p - 1)) (listOf w i) }
-  pair = rw (ne-eqb (listOf w i) 0 (omega (arith, u .step .state .listed .named i (u .step .place))))
+  -- Tags that have one label are equal by the list's records.
+  over : {x y : ℕ} → labelOf w x ≡ labelOf w y → Follows (Only (recordsIn (t .len) w) (listIn (t .places) w)) x y
+  over {x} {y} e = let z : Follows (Only (recordsIn (t .len) w) (listIn (t .places) w)) (labelOf w x) y = rw e (flip (u .step .state .sound y)) in chain (u .step .state .sound x) z
 
-  pub unify-due : (k k′ a b : ℕ) → k ≡ listOf w (p - 1) → k′ ≡ listOf w i → a ≡ labelOf w (resultOf w k) → b ≡ labelOf w (resultOf w k′) → a ≢ b → Joining t w n k k′ a b
-  unify-due k k′ a b ek ek′ ea eb d =
-      let listed = u .step .state .listed in
-      rw (ek, ek′) (record {
-        state = u .step .state;
-        some = omega (arith, u .step .place);
-        due = rw pair (record {
-          tags = (row-result listed (p - 1) unify-low unify-app, row-result listed i (u .step .place) (u .app));
-          grounds = applications (rw unify-app at (row-at listed (p - 1) unify-low)) (rw (u .app) at (row-at listed i (u .step .place))) (args .0) (args .1);
-          within = λ m h. elim (List·Memᴰ·cases-cons h) [ inl q ↦ rw q (row-in listed (p - 1) unify-low) | inr r ↦ rw (List·Memᴰ·eq-of-singleton r) (row-in listed i (u .step .place)) ];
-        });
-        apart = d;
-        ends = rw pair (inl (rw (← ek) (sym ea), rw (← ek′) (sym eb)));
-      })
-
--- Place i was put at the head of a bucket's chain.
-module _ (few : Bool) (w w′ : List ℕ) (i b : ℕ) (long : 32768 ≤ length w) (room : i < reach few) (low : b < width few) (e : w′ ≡ set (set w (22003 + i) (headIn few w b)) (26003 + b) (i + 1)) where
-  abbrev w₁ : List ℕ
-  w₁ = set w (22003 + i) (headIn few w b)
-
-  size : length w₁ ≡ length w
-  size = length-set w (22003 + i) (headIn few w b)
-
-  most : (i < 4000) × (b < 4093)
-  most = (omega (arith, room, reach-most few), omega (arith, low, width-most few))
-
-  pub put-frame : Within 22003 30096 w w′
-  put-frame = rw e (within-trans (within-set 22003 30096 w (22003 + i) (headIn few w b) (omega arith) (omega (arith, most))) (within-set 22003 30096 w₁ (26003 + b) (i + 1) (omega arith) (omega (arith, most))))
-
-  pub put-heads : headIn few w′ ≡ put b (suc i) (headIn few w)
-  put-heads = rw (e, add-one) (seen-in 26003 (width few) (λ x. 0) w₁ b (suc i) low (omega (arith, most, size, long))
-      ∙ ap (put b (suc i)) (seen-out 26003 (width few) (λ x. 0) w (22003 + i) (headIn few w b) (inl (omega (arith, most)))))
-
-  pub put-nexts : nextIn few w′ ≡ put i (headIn few w b) (nextIn few w)
-  put-nexts = rw e (seen-out 22003 (reach few) (λ x. 0) w₁ (26003 + b) (i + 1) (inr (omega (arith, reach-most few))) ∙ seen-in 22003 (reach few) (λ x. 0) w i (headIn few w b) room (omega (arith, most, long)))
+  pub unify-due : (k k′ a b : ℕ) → k ≡ listOf w (p - 1) → k′ ≡ listOf w i → a ≡ labelOf w (resultOf w k) → b ≡ labelOf w (resultOf w k′) → a ≢ b → Joining t w a b
+  unify-due k k′ a b ek ek′ ea eb =
+      let h = u .step .state .listed in
+      let one = row-at h (p - 1) unify-low in
+      let two = row-at h i (u .step .place) in
+      due (u .step .state) (resultOf w (listOf w (p - 1))) (resultOf w (listOf w i)) (row-result h (p - 1) unify-low unify-app) (row-result h i (u .step .place) (u .app))
+      (congruent (listOf w (p - 1), row-in h (p - 1) unify-low, rw unify-app at one) (listOf w i, row-in h i (u .step .place), rw (u .app) at two) (over (args .0)) (over (args .1))) a b (rw ek at ea) (rw ek′ at eb)
 
 -- An application that is not found.
 module _ {t : Task} {w : List ℕ} {i n : ℕ} (s : Stepping t w i n) (q : eqnOf w i ≡ false) where
@@ -137,7 +110,7 @@ module _ {t : Task} {w : List ℕ} {i n : ℕ} (s : Stepping t w i n) (q : eqnOf
       → look (width (t .few)) (keyOf w) (headIn (t .few) w) (nextIn (t .few) w) (keyOf w i) ≡ 0 → Stepped t w i n w′ n
   apply-new w′ e z = record {
     state = chains-state frame (s .state);
-    kept = chains-kept frame (t .keep);
+    kept = chains-kept frame;
     chains = rw (eqns-same frame, heads, nexts) (chains-insert (width (t .few)) (eqnOf w) (keyOf w) (resOf w) (headIn (t .few) w) (nextIn (t .few) w) i (s .chains) q);
     more = omega arith;
     valid = λ _ v. record {
@@ -188,7 +161,7 @@ eqn-is w i k b v ek eb ev = rw (← ek) (sym eb ∙ ev)
 pub passed-none : {t : Task} {w w′ : List ℕ} {n : ℕ} → State t w n → Cleared (t .few) w w′ → Passed t w′ n 0 w′ n
 passed-none {t} {w} {w′} s c = record {
   state = chains-state (c .frame) s;
-  kept = kept-refl (t .keep) w′;
+  kept = within-refl w′;
   chains = chains-none (eqnOf w′) (headIn (t .few) w′) (nextIn (t .few) w′) (c .heads) (c .nexts);
   more = omega arith;
   valid = λ e. record { filled = filled-none (width (t .few)) (eqnOf w′) (keyOf w′) (resOf w′) (headIn (t .few) w′) (nextIn (t .few) w′); equal = λ j l. absurd (omega arith) };
@@ -197,11 +170,11 @@ passed-none {t} {w} {w′} s c = record {
 pub passed-step : {t : Task} {w w′ w″ : List ℕ} {n i n′ n″ : ℕ} → Passed t w n i w′ n′ → Stepped t w′ i n′ w″ n″ → Passed t w n (i + 1) w″ n″
 passed-step {i = i} p s = rw add-one (record {
   state = s .state;
-  kept = kept-trans (p .kept) (s .kept);
+  kept = within-trans (p .kept) (s .kept);
   chains = s .chains;
   more = omega (arith, p .more, s .more);
   valid = λ e. s .valid (omega (arith, p .more, s .more)) (p .valid (omega (arith, p .more, s .more)));
 })
 
 pub passed-from : {t : Task} {w w′ w″ : List ℕ} {n i n″ : ℕ} → Cleared (t .few) w w′ → Passed t w′ n i w″ n″ → Passed t w n i w″ n″
-passed-from {t} c p = record { state = p .state; kept = kept-trans (chains-kept (c .frame) (t .keep)) (p .kept); chains = p .chains; more = p .more; valid = p .valid }
+passed-from {t} c p = record { state = p .state; kept = within-trans (chains-kept (c .frame)) (p .kept); chains = p .chains; more = p .more; valid = p .valid }

@@ -1,24 +1,14 @@
--- The promises of the closure's two calls.
+-- The promises of the closure's calls.
 -- Assumes nothing.
-use Prim.Native.Nat.{ℕ, suc, _+_, _-_, _≤_, _<_}
+use Prim.Native.Nat.{ℕ, _+_, _≤_, _<_}
 use mathlib.Core.Path.{_≡_}
 use mathlib.Core.Logic.{_↔_}
-use mathlib.Core.Bool.{Bool, true, false}
+use mathlib.Core.Bool.{Bool, true}
 use mathlib.Core.List.{List, List·Memᴰ}
-use lib.ListN.{length}
-use Rattle.meaning.specs.Following.{Rec, Follows, Those, UpTo, Only}
+use Rattle.meaning.specs.Following.{Follows, Those, Only}
 use Rattle.meaning.specs.Labels.{Labels, classes}
-use Rattle.meaning.specs.Totals.{Classes, Idles}
 use Rattle.table.specs.Map.{leftOf, rightOf, listOf, markOf, savedOf, recordsIn, listIn, Loaded, Within}
-use Rattle.closure.specs.Past.{Past}
-
--- From w to w′ the records 1 to len of N tags were closed: what was written lies behind the columns and before the marks, the joins are
--- kept for every moment, and the numbers of classes and of idle records over all records are as document 01 defines them.
-pub record Closing (N len : ℕ) (w w′ : List ℕ) (joins idle : ℕ) : Type 0 where
-  pub kept : Within 12003 30096 w w′
-  pub past : Past N len w′ joins
-  pub classes : Classes N (UpTo (recordsIn len w′) len) (N - joins)
-  pub idles : Idles N (recordsIn len w′) idle
+use Rattle.labels.specs.Parts.{Own}
 
 -- The first n numbers of the list name records of the table.
 pub record Listed (N len n : ℕ) (w : List ℕ) : Type 0 where
@@ -30,10 +20,6 @@ pub record Listed (N len n : ℕ) (w : List ℕ) : Type 0 where
 pub record Entailing (N len n s t : ℕ) (w w′ : List ℕ) (answer : Bool) : Type 0 where
   pub kept : Within 21003 30096 w w′
   pub exact : (answer ≡ true) ↔ Follows (Only (recordsIn len w) (listIn n w)) s t
-
--- What is no tag of the job is its own label.
-abbrev pub Own : ℕ → (ℕ → ℕ) → Type 0
-Own N f = (x : ℕ) → N ≤ x → f x ≡ x
 
 -- The labels that are saved follow from the records that P picks of 1 to len on N tags, and it took so many joins to make them.
 pub record Saved (N len : ℕ) (P : ℕ → Type 0) (w : List ℕ) (joins : ℕ) : Type 0 where

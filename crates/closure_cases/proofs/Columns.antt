@@ -15,8 +15,10 @@ use Rattle.meaning.proofs.Log.{put-hit, put-miss}
 use Rattle.table.specs.Map.{listOf, Loaded, Within}
 use Rattle.table.proofs.Frame.{seen-in, seen-within, within-wider, within-set}
 use Rattle.table.proofs.Columns.{stored, loaded-none, loaded-equation, loaded-application}
-use Rattle.closure.specs.Closing.{Listed, Closing, Entailing}
-use Rattle.closure.proofs.Views.{loaded-same, listed-same}
+use Rattle.closure.specs.Closing.{Listed, Entailing}
+use Rattle.history.specs.Closing.{Closing}
+use Rattle.labels.proofs.Views.{loaded-same}
+use Rattle.closure.proofs.Views.{listed-same}
 
 -- One record more is loaded: the list is kept.
 record-listed : {N len n : ℕ} {w w′ : List ℕ} → Listed N len n w → Loaded N (len + 1) w′ × Within 0 12003 w w′ → Listed N (len + 1) n w′

@@ -173,7 +173,7 @@ fn close(work: &mut [u16], d: Desk) -> Desk
 {
     let size = d.size;
     let len = d.len;
-    let t = closure::close(work, size, len);
+    let t = history::close(work, size, len);
     io::write_all(1, b"classes");
     number(size - t.joins);
     io::write_all(1, b" idle");

@@ -1,7 +1,7 @@
 // framed: many jobs and reports in one process, for the comparison with the second program; compare/README.md, "Many jobs in one process", has the frames.
 // Before each call room and tables are filled with rubbish that differs from call to call, and after it room and work table are looked at: where they did
 // not end as document 01 says, "What is lent, and each refusal", a frame X tells of it. No contract says what is written: the second program judges that.
-// Rests on calls, records, job and console.
+// Rests on calls, records, job_read and console.
 ghost use mathlib.Core.Path.{_≡_};
 use calls::recheck_over;
 use calls::run_over;
@@ -10,8 +10,8 @@ use console::read_input;
 use console::write_error;
 use console::write_output;
 use haltzurme::Answer;
-use job::Answer as Read;
-use job::read_job;
+use job_read::Answer as Read;
+use job_read::read_job;
 use meaning::Tag;
 use records::Record;
 

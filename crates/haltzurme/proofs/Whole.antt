@@ -16,16 +16,20 @@ use Rattle.records.proofs.Cleared.{blanked-over}
 use Rattle.table.specs.Map.{recordsIn, Loaded}
 use Rattle.table.proofs.Frame.{within-wider}
 use Rattle.fill.specs.Handing.{Counts, Handable, Handed}
-use Rattle.haltzurme.specs.declared.Sight.{Sight}
+use Rattle.parts.specs.declared.Sight.{Sight}
 use Rattle.haltzurme.specs.Run as r
-use Rattle.haltzurme.specs.Run.{Cleared, Lent, Emptied, Ran}
-use Rattle.haltzurme.specs.Look as l
-use Rattle.haltzurme.specs.Look.{Looked}
-use Rattle.haltzurme.specs.Finish as f
-use Rattle.haltzurme.specs.Finish.{Begun, Finished}
+use Rattle.parts.specs.Clear.{Cleared}
+use Rattle.haltzurme.specs.Run.{Lent, Emptied, Ran}
+use Rattle.parts.specs.Look as l
+use Rattle.parts.specs.Look.{Looked}
+use Rattle.parts.specs.Finish as f
+use Rattle.parts.specs.Finish.{Begun, Finished}
+use Rattle.parts.specs.Weigh as v
 use Rattle.haltzurme.specs.Recheck as c
-use Rattle.haltzurme.specs.Recheck.{Rechecked, Viewed, Opened, Weighed}
-use Rattle.haltzurme.proofs.Clearing.{cleared-after}
+use Rattle.parts.specs.Weigh.{Viewed, Opened, Weighed}
+use Rattle.haltzurme.specs.Recheck.{Rechecked}
+use Rattle.parts.proofs.Clearing.{cleared-after}
+use Rattle.parts.proofs.Ready.{Ready, looked-ready, viewed-ready, same-items}
 
 -- All of the records are asked for, or none.
 looked-counts : {job : List ℕ} {room : ℕ} {b : Bool} {n p N k : ℕ} → Looked job room b n p N k → (k ≡ 0) ⊎ Counts job k
@@ -34,26 +38,8 @@ looked-counts (l.cramped e h) = inl refl
 looked-counts (l.ready {N = N} {items = items} e h) = inr (record { size = N; items = items; reads = e; records = refl })
 
 viewed-counts : {job : List ℕ} {b : Bool} {n p N k : ℕ} → Viewed job b n p N k → (k ≡ 0) ⊎ Counts job k
-viewed-counts (c.unread e) = inl refl
-viewed-counts (c.ready {N = N} {items = items} e) = inr (record { size = N; items = items; reads = e; records = refl })
-
--- What is known where the call may go on.
-pub record Ready (job : List ℕ) (N k : ℕ) : Type 0 where
-  pub items : List Item
-  pub reads : reading job ≡ accepted N items
-  pub records : k ≡ length (recordsOf items)
-
-pub looked-ready : {job : List ℕ} {room : ℕ} {b : Bool} {n p N k : ℕ} → Looked job room b n p N k → b ≡ true → Ready job N k
-looked-ready (l.unread e) q = let z : _≡_ {A = ℕ} 0 1 = cc in absurd (omega arith)
-looked-ready (l.cramped e h) q = let z : _≡_ {A = ℕ} 0 1 = cc in absurd (omega arith)
-looked-ready (l.ready {items = items} e h) q = record { items = items; reads = e; records = refl }
-
-pub viewed-ready : {job : List ℕ} {b : Bool} {n p N k : ℕ} → Viewed job b n p N k → b ≡ true → Ready job N k
-viewed-ready (c.unread e) q = let z : _≡_ {A = ℕ} 0 1 = cc in absurd (omega arith)
-viewed-ready (c.ready {items = items} e) q = record { items = items; reads = e; records = refl }
-
-pub same-items : (job : List ℕ) (N M : ℕ) (items items′ : List Item) → reading job ≡ accepted N items → reading job ≡ accepted M items′ → items ≡ items′
-same-items job N M items items′ e f = let g : accepted N items ≡ accepted M items′ = sym e ∙ f in cc
+viewed-counts (v.unread e) = inl refl
+viewed-counts (v.ready {N = N} {items = items} e) = inr (record { size = N; items = items; reads = e; records = refl })
 
 -- What both calls share: the records are in the columns, and the tables are emptied in the end.
 module _ (job : List ℕ) (t : List Record) (w : List ℕ) (s : Sight) (h : Lent job t w) (t′ : List Record) (w′ : List ℕ) (d : Handed job t w (s .records) t′ w′) where
@@ -93,6 +79,6 @@ module _ (job report : List ℕ) (t : List Record) (w : List ℕ) (s : Sight) (h
     handed-opened = record { long = omega (arith, d .frame .size, h .numbers); viewed = seen; loaded = in-columns job t w s h t′ w′ d (viewed-ready seen); columns = as-items job t w s h t′ w′ d (viewed-ready seen) }
 
     pub weighed-rechecked : (n p : ℕ) (w″ : List ℕ) (t″ : List Record) → Weighed job report w′ n p w″ → Blanked t′ t″ → Rechecked job report t w n p t″ w″
-    weighed-rechecked n p w″ t″ (c.unread e x) b = c.unread h e (emptied job t w s h t′ w′ d x b)
-    weighed-rechecked n p w″ t″ (c.unsound e k x) b = c.unsound h e k (emptied job t w s h t′ w′ d x b)
-    weighed-rechecked n p w″ t″ (c.sound e k x) b = c.sound h e k (emptied job t w s h t′ w′ d x b)
+    weighed-rechecked n p w″ t″ (v.unread e x) b = c.unread h e (emptied job t w s h t′ w′ d x b)
+    weighed-rechecked n p w″ t″ (v.unsound e k x) b = c.unsound h e k (emptied job t w s h t′ w′ d x b)
+    weighed-rechecked n p w″ t″ (v.sound e k x) b = c.sound h e k (emptied job t w s h t′ w′ d x b)

@@ -1,5 +1,3 @@
 pub mod Run
-pub mod Look
 pub mod Alike
-pub mod Finish
 pub mod Recheck

@@ -5,23 +5,13 @@ use Prim.Native.Nat.{ℕ, _≤_, _<_}
 use mathlib.Core.Path.{_≡_}
 use mathlib.Core.Logic.{_⊎_}
 use mathlib.Core.List.{List, _++_}
-use lib.ListN.{length, getD, drop}
+use lib.ListN.{length, drop}
 use Rattle.job.specs.Items.{Item, refused, accepted, recordsOf, neededRoom}
 use Rattle.job.specs.Reading.{reading}
 use Rattle.records.specs.declared.Record.{Record}
 use Rattle.records.specs.Table.{Blanked}
 use Rattle.report.specs.Report.{Sound}
-
--- Every number of a part is zero.
-pub record Wiped (l l′ : List ℕ) : Type 0 where
-  pub size : length l′ ≡ length l
-  pub zero : (i : ℕ) → i < length l → getD l′ i 0 ≡ 0
-
--- The named places of the work table, the first 32,768, are zero and the rest is as it was.
-pub record Cleared (w w′ : List ℕ) : Type 0 where
-  pub size : length w′ ≡ length w
-  pub zero : (i : ℕ) → i < 32768 → getD w′ i 0 ≡ 0
-  pub rest : drop 32768 w′ ≡ drop 32768 w
+use Rattle.parts.specs.Clear.{Cleared}
 
 -- Neither the job nor a table is at fault by its length.
 pub record Lent (job : List ℕ) (records : List Record) (work : List ℕ) : Type 0 where

@@ -12,10 +12,7 @@ use lib.ListN.{length}
 use Rattle.meaning.specs.Following.{eq, app}
 use Rattle.job.specs.Items.{Item, noted, ask, explain, Reading, refused, accepted, recordsOf, questionsOf}
 use Rattle.job.specs.Reading.{Field, bad, header, item, end, fieldAt, byteAt, firstKind, bodyAt, numbered, checked, with, behind, spanOf, onward, readFrom, reading, first, unknown}
-use Rattle.job.specs.Answer.{Summary, refusal, acceptance, told, summary, numberOf}
-use Rattle.job.specs.Standing.{Tagged, Stands, ends, next, Job, Taken, Met}
-use Rattle.job.specs.declared.Fault.{Fault}
-use Rattle.job.specs.declared.Answer.the-variants.{Refused, Accepted}
+use Rattle.job.specs.Standing.{Tagged, Stands, ends, next, Job, Met}
 use Rattle.job.proofs.Reading.{Passed, checked-passed, field-whole, field-passed, header-first, and-true}
 
 -- Numbers that were tested are tags below N.
@@ -151,25 +148,6 @@ accepted-stands job N items e = go (checked 0 0 0 (fieldAt job 0)) refl e
         rw (v .size) (record { some = omega arith; most = high; records = omega (arith, v .records); questions = omega (arith, v .questions); first = p .is; stands = v .stands })
     go (item i) c e = absurd (untagged i (numbered-tags 0 i (checked-passed 0 0 0 (fieldAt job 0) (item i) tt c .number)))
     go end c e = absurd (no-end-first job (checked-passed 0 0 0 (fieldAt job 0) end tt c .is))
-
--- What an answer tells of the reading.
-pub told-accepted : (job : List ℕ) (N R Q room : ℕ) → told (Accepted N R Q room) ≡ summary (reading job) → Taken job N R Q room
-told-accepted job N R Q room e = go (reading job) refl e
-  where
-    go : (X : Reading) → reading job ≡ X → acceptance N R Q room ≡ summary X → Taken job N R Q room
-    go (refused n p) i e = let z : _≡_ {A = ℕ} 0 1 = cc in absurd (omega arith)
-    go (accepted M is) i e = let same : M ≡ N = cc in record { items = is; reads = rw (← same) i; records = cc; questions = cc; needed = rw (← same) (ap roomOf e) }
-      where
-        roomOf : Summary → ℕ
-        roomOf (refusal n p) = 0
-        roomOf (acceptance n r q m) = m
-
-pub told-refused : (job : List ℕ) (f : Fault) (p : ℕ) → told (Refused f p) ≡ summary (reading job) → reading job ≡ refused (numberOf f) p
-told-refused job f p e = go (reading job) refl e
-  where
-    go : (X : Reading) → reading job ≡ X → refusal (numberOf f) p ≡ summary X → reading job ≡ refused (numberOf f) p
-    go (refused n q) i e = let a : numberOf f ≡ n = cc in let b : p ≡ q = cc in rw (a, b) i
-    go (accepted M is) i e = let z : _≡_ {A = ℕ} 0 1 = cc in absurd (omega arith)
 
 -- Stepping through: what the cursor says at a place says what stands there.
 module _ (job : List ℕ) (N : ℕ) where

@@ -1,10 +1,8 @@
--- What the answers of the code say in document 01's words: the number and the place of each refusal, and what is known of a job that
--- is accepted.
+-- What the enums of the code say in document 01's words: the number of each refusal, a kind and a field.
 -- Assumes nothing.
 use Prim.Native.Nat.{ℕ}
-use lib.ListN.{length}
 use Rattle.meaning.specs.Following.{eq, app}
-use Rattle.job.specs.Items.{noted, ask, explain, Reading, refused, accepted, recordsOf, questionsOf, neededRoom}
+use Rattle.job.specs.Items.{noted, ask, explain}
 use Rattle.job.specs.Reading.{Kind, first, record-eq, record-app, question-ask, question-explain, last, unknown, Field, bad, header, item, end, spanOf}
 use Rattle.job.specs.declared.Fault.{Fault}
 use Rattle.job.specs.declared.Fault.the-variants.{Cut, Misplaced, Misfit, OutOfRange, TooMany, Trailing}
@@ -12,8 +10,6 @@ use Rattle.job.specs.declared.Kind.{Kind as KindCode}
 use Rattle.job.specs.declared.Kind.the-variants as k
 use Rattle.job.specs.declared.Field.{Field as FieldCode}
 use Rattle.job.specs.declared.Field.the-variants.{Bad, Header, Equation, Application, Ask, Explain, End}
-use Rattle.job.specs.declared.Answer.{Answer}
-use Rattle.job.specs.declared.Answer.the-variants.{Refused, Accepted}
 
 -- The refusals of reading by document 01's numbers.
 abbrev pub numberOf : Fault → ℕ
@@ -49,18 +45,3 @@ spanOfField (bad n) = 0
 spanOfField (header N) = 5
 spanOfField (item i) = spanOf i
 spanOfField end = 3
-
--- What a whole reading comes to: a refusal's number and place; or N, the number of records, the number of questions and the needed
--- room.
-pub data Summary : Type 0 where
-  refusal : ℕ → ℕ → Summary
-  acceptance : ℕ → ℕ → ℕ → ℕ → Summary
-
-abbrev pub summary : Reading → Summary
-summary (refused n p) = refusal n p
-summary (accepted N is) = acceptance N (length (recordsOf is)) (questionsOf is) (neededRoom N 0 is)
-
--- The same of what the code answers, by document 01's numbers.
-abbrev pub told : Answer → Summary
-told (Refused f p) = refusal (numberOf f) p
-told (Accepted N R Q room) = acceptance N R Q room

@@ -1,7 +1,10 @@
-// Damaged jobs and jobs at a limit, each with the number and the place that document 01 gives it. A line is a name, the
-// number and the place that `job::read_job` answered; where those are not the expected ones, they are written behind.
-// Rests on job; no contract says what is written, the stored output does.
+// Damaged jobs and jobs at a limit, each with the number and the place that document 01 gives it. A line of standard input is a name, the number and the
+// place, and after a colon the job's bytes; an empty line parts those that stand alone from those that go on behind 4,000 records, behind 1,000 questions, and
+// behind the longest job. A line that is written is a name, the number and the place that `job_read::read_job` answered; where those are not the expected ones,
+// they are written behind. Rests on job, job_read and console; no contract says what is written, the stored output does.
 ghost use mathlib.Core.Path.{_≡_};
+use console::Got;
+use console::read_input;
 
 // What document 01 gives an answer: 0 at 0 where the job is accepted.
 struct Verdict {
@@ -28,12 +31,12 @@ fn word(x: u16) -> u64
 }
 
 fn answered(bytes: &[u8]) -> Verdict {
-    match job::read_job(bytes) {
-        job::Answer::Refused { fault, place } => Verdict {
+    match job_read::read_job(bytes) {
+        job_read::Answer::Refused { fault, place } => Verdict {
             number: byte(job::number_of(fault)),
             place: size(place),
         },
-        job::Answer::Accepted {
+        job_read::Answer::Accepted {
             size: _,
             records: _,
             questions: _,
@@ -88,288 +91,128 @@ fn front(name: &[u8], room: &[u8], n: usize, number: u64, place: u64) {
     }
 }
 
-// A job with N = 2 that goes on so behind the first field.
-fn later(name: &[u8], rest: &[u8], number: u64, place: u64) {
-    let mut room = [0u8; 40];
-    let begun = put(&mut room, 0, b"\x10\x00\x02\x00\x02");
-    let n = put(&mut room, begun, rest);
-    front(name, &room, n, number, place);
+// The place behind the first such byte of the text, from a place on.
+fn behind(text: &[u8], from: usize, mark: u8) -> usize {
+    let mut i = from;
+    while i < text.len() {
+        if text[i] == mark {
+            return i + 1;
+        }
+        i += 1;
+    }
+    i
 }
 
-// The same with an end field behind it.
-fn ended(name: &[u8], rest: &[u8], number: u64, place: u64) {
-    let mut room = [0u8; 40];
-    let begun = put(&mut room, 0, b"\x10\x00\x02\x00\x02");
-    let n = put(&mut room, begun, rest);
-    let end = put(&mut room, n, b"\x7F\x00\x00");
-    front(name, &room, end, number, place);
+// A digit, decimal or hexadecimal.
+fn digit(x: u8) -> u8 {
+    if x < 65 {
+        if x < 48 { 0 } else { x - 48 }
+    } else {
+        x - 55
+    }
 }
 
-fn no_first_field() {
-    case(b"empty", b"", 3, 0);
-    case(b"one_byte_of_a_header", b"\x10", 3, 0);
-    case(b"two_bytes_of_a_header", b"\x10\x00", 3, 0);
-    case(b"one_stray_byte", b"\xFF", 3, 0);
-    case(b"two_stray_bytes", b"\xFF\xFF", 3, 0);
-    case(b"header_without_body", b"\x10\x00\x02", 3, 0);
-    case(b"header_with_half_a_body", b"\x10\x00\x02\x00", 3, 0);
-    case(b"header_alone", b"\x10\x00\x02\x00\x02", 3, 5);
+fn byte_of(high: u8, low: u8) -> u8 {
+    digit(high) % 16 * 16 + digit(low) % 16
 }
 
-fn wrong_first_field() {
-    later(b"header_and_end", b"\x7F\x00\x00", 0, 0);
-    case(b"end_first", b"\x7F\x00\x00", 4, 0);
-    case(b"unknown_first", b"\xFF\x00\x00", 4, 0);
-    case(
-        b"record_first",
-        b"\x01\x00\x04\x00\x00\x00\x01\x7F\x00\x00",
-        4,
-        0,
-    );
-    case(b"ask_first", b"\x03\x00\x04\x00\x00\x00\x00", 4, 0);
+// A number of the text, and the place behind the byte that ends it.
+struct Figure {
+    value: u64,
+    next: usize,
 }
 
-fn header_lengths() {
-    case(b"header_too_long", b"\x10\x00\x03\x00\x02\x00", 5, 0);
-    case(b"header_of_no_length", b"\x10\x00\x00", 5, 0);
-    case(b"header_length_258", b"\x10\x01\x02\x00\x02", 5, 0);
-    case(b"header_length_swapped", b"\x10\x02\x00\x00\x02", 5, 0);
+fn parsed(text: &[u8], from: usize, mark: u8) -> Figure {
+    let mut value: u64 = 0;
+    let mut i = from;
+    while i < text.len() {
+        let x = text[i];
+        i += 1;
+        if x == mark {
+            return Figure { value, next: i };
+        }
+        value = value % 1000000 * 10 + byte(digit(x));
+    }
+    Figure { value, next: i }
 }
 
-fn header_numbers() {
-    case(b"n_0", b"\x10\x00\x02\x00\x00\x7F\x00\x00", 6, 0);
-    case(b"n_1", b"\x10\x00\x02\x00\x01\x7F\x00\x00", 0, 0);
-    case(b"n_1000", b"\x10\x00\x02\x03\xE8\x7F\x00\x00", 0, 0);
-    case(b"n_1001", b"\x10\x00\x02\x03\xE9\x7F\x00\x00", 6, 0);
-    case(b"n_65535", b"\x10\x00\x02\xFF\xFF\x7F\x00\x00", 6, 0);
-    case(b"n_1001_and_no_more", b"\x10\x00\x02\x03\xE9", 6, 0);
+// Where the bytes of a line end in the room, and the place behind the line.
+struct Laid {
+    end: usize,
+    next: usize,
 }
 
-fn stray_bytes() {
-    later(b"one_byte_of_an_end", b"\x7F", 3, 5);
-    later(b"two_bytes_of_an_end", b"\x7F\x00", 3, 5);
-    later(b"one_stray_byte_later", b"\xFF", 3, 5);
-    later(b"two_stray_bytes_later", b"\xFF\xFF", 3, 5);
+// The bytes of a line come to a place of the room: each is a space and two hexadecimal digits.
+fn lay(text: &[u8], from: usize, room: &mut [u8], start: usize) -> Laid {
+    let mut i = from;
+    let mut end = start;
+    while i < text.len() {
+        if text[i] == b'\n' {
+            return Laid { end, next: i + 1 };
+        }
+        if text.len() - i < 3 {
+            return Laid {
+                end,
+                next: text.len(),
+            };
+        }
+        if room.len() <= end {
+            return Laid {
+                end,
+                next: text.len(),
+            };
+        }
+        room[end] = byte_of(text[i + 1], text[i + 2]);
+        end += 1;
+        i += 3;
+    }
+    Laid { end, next: i }
 }
 
-fn misplaced_kinds() {
-    later(b"unknown_later", b"\xFF\xFF\xFF", 4, 5);
-    later(b"kind_00", b"\x00\x00\x00", 4, 5);
-    later(b"kind_05", b"\x05\x00\x04\x00\x00\x00\x00", 4, 5);
-    later(b"kind_80", b"\x80\x00\x00", 4, 5);
-    ended(b"second_10", b"\x10\x00\x02\x00\x02", 4, 5);
-    later(b"second_10_of_wrong_length", b"\x10\x00\x07", 4, 5);
-    later(b"second_10_cut", b"\x10\x00", 3, 5);
+// A line of the text: a name, the number and the place that are expected, and the bytes that stand in the room from a place on, to the job's end.
+fn row(text: &[u8], from: usize, room: &mut [u8], start: usize) -> usize {
+    let named = behind(text, from, b' ');
+    let number = parsed(text, named, b' ');
+    let place = parsed(text, number.next, b':');
+    let laid = lay(text, place.next, room, start);
+    if named <= text.len() {
+        if from < named {
+            front(
+                &text[from..named - 1],
+                room,
+                laid.end,
+                number.value,
+                place.value,
+            );
+        }
+    }
+    laid.next
 }
 
-fn end_lengths() {
-    later(b"end_with_a_body", b"\x7F\x00\x01\x00", 5, 5);
-    later(b"end_with_a_length_only", b"\x7F\x00\x01", 5, 5);
-    later(b"end_length_256", b"\x7F\x01\x00", 5, 5);
-}
-
-fn body_lengths() {
-    later(b"equation_length_3", b"\x01\x00\x03\x00\x00\x00", 5, 5);
-    later(
-        b"equation_length_5",
-        b"\x01\x00\x05\xFF\xFF\xFF\xFF\xFF",
-        5,
-        5,
-    );
-    later(
-        b"equation_length_6",
-        b"\x01\x00\x06\x00\x00\x00\x00\x00\x00",
-        5,
-        5,
-    );
-    later(
-        b"application_length_4",
-        b"\x02\x00\x04\x00\x00\x00\x00",
-        5,
-        5,
-    );
-    later(
-        b"ask_length_6",
-        b"\x03\x00\x06\x00\x00\x00\x00\x00\x00",
-        5,
-        5,
-    );
-    later(b"explain_length_0", b"\x04\x00\x00", 5, 5);
-    later(
-        b"equation_length_swapped",
-        b"\x01\x04\x00\x00\x00\x00\x00",
-        5,
-        5,
-    );
-    later(b"wrong_length_and_no_body", b"\x02\x00\x09", 5, 5);
-}
-
-fn bodies_cut() {
-    later(b"equation_without_body", b"\x01\x00\x04", 3, 5);
-    later(
-        b"equation_one_byte_short",
-        b"\x01\x00\x04\x00\x00\x00",
-        3,
-        5,
-    );
-    later(
-        b"application_one_byte_short",
-        b"\x02\x00\x06\x00\x00\x00\x00\x00",
-        3,
-        5,
-    );
-    later(b"ask_three_bytes_short", b"\x03\x00\x04\x00", 3, 5);
-    later(b"explain_one_byte_short", b"\x04\x00\x04\xFF\xFF\xFF", 3, 5);
-}
-
-fn ends_cut() {
-    later(b"record_and_no_end", b"\x01\x00\x04\x00\x00\x00\x01", 3, 12);
-    later(
-        b"record_and_one_byte",
-        b"\x01\x00\x04\x00\x00\x00\x01\x7F",
-        3,
-        12,
-    );
-    later(
-        b"record_and_two_bytes",
-        b"\x01\x00\x04\x00\x00\x00\x01\x7F\x00",
-        3,
-        12,
-    );
-    ended(b"record_and_end", b"\x01\x00\x04\x00\x00\x00\x01", 0, 0);
-}
-
-fn record_tags() {
-    ended(b"equation_a_is_n", b"\x01\x00\x04\x00\x02\x00\x00", 6, 5);
-    ended(b"equation_b_is_n", b"\x01\x00\x04\x00\x00\x00\x02", 6, 5);
-    ended(b"equation_n_minus_1", b"\x01\x00\x04\x00\x01\x00\x01", 0, 0);
-    ended(
-        b"application_a_is_n",
-        b"\x02\x00\x06\x00\x02\x00\x00\x00\x00",
-        6,
-        5,
-    );
-    ended(
-        b"application_b_is_n",
-        b"\x02\x00\x06\x00\x00\x00\x02\x00\x00",
-        6,
-        5,
-    );
-    ended(
-        b"application_c_is_n",
-        b"\x02\x00\x06\x00\x00\x00\x00\x00\x02",
-        6,
-        5,
-    );
-    ended(
-        b"application_n_minus_1",
-        b"\x02\x00\x06\x00\x01\x00\x01\x00\x01",
-        0,
-        0,
-    );
-}
-
-fn question_tags() {
-    ended(b"ask_s_is_n", b"\x03\x00\x04\x00\x02\x00\x00", 6, 5);
-    ended(b"ask_t_is_n", b"\x03\x00\x04\x00\x00\x00\x02", 6, 5);
-    ended(b"explain_s_is_n", b"\x04\x00\x04\x00\x02\x00\x00", 6, 5);
-    ended(b"explain_t_is_n", b"\x04\x00\x04\x00\x00\x00\x02", 6, 5);
-}
-
-fn tag_limits() {
-    later(b"tag_65535", b"\x01\x00\x04\xFF\xFF\x00\x00", 6, 5);
-    later(b"tag_256_of_2", b"\x01\x00\x04\x01\x00\x00\x00", 6, 5);
-    case(
-        b"tag_256_of_257",
-        b"\x10\x00\x02\x01\x01\x01\x00\x04\x01\x00\x00\x00\x7F\x00\x00",
-        0,
-        0,
-    );
-    case(
-        b"tag_257_of_257",
-        b"\x10\x00\x02\x01\x01\x01\x00\x04\x00\x00\x01\x01\x7F\x00\x00",
-        6,
-        5,
-    );
-    case(
-        b"tag_0_of_1",
-        b"\x10\x00\x02\x00\x01\x04\x00\x04\x00\x00\x00\x00\x7F\x00\x00",
-        0,
-        0,
-    );
-    case(
-        b"tag_1_of_1",
-        b"\x10\x00\x02\x00\x01\x04\x00\x04\x00\x00\x00\x01\x7F\x00\x00",
-        6,
-        5,
-    );
-    case(
-        b"tag_999_of_1000",
-        b"\x10\x00\x02\x03\xE8\x03\x00\x04\x03\xE7\x03\xE7\x7F\x00\x00",
-        0,
-        0,
-    );
-    case(
-        b"tag_1000_of_1000",
-        b"\x10\x00\x02\x03\xE8\x03\x00\x04\x03\xE7\x03\xE8\x7F\x00\x00",
-        6,
-        5,
-    );
-}
-
-fn later_tags() {
-    ended(
-        b"second_record",
-        b"\x01\x00\x04\x00\x00\x00\x01\x01\x00\x04\x00\x00\x00\x02",
-        6,
-        12,
-    );
-    ended(
-        b"behind_an_application",
-        b"\x02\x00\x06\x00\x00\x00\x00\x00\x00\x03\x00\x04\x00\x02\x00\x00",
-        6,
-        14,
-    );
-    later(
-        b"first_fault_first",
-        b"\x01\x00\x04\x00\x02\x00\x00\xFF\xFF\xFF",
-        6,
-        5,
-    );
-}
-
-fn behind_the_end() {
-    later(b"one_byte_behind", b"\x7F\x00\x00\x00", 8, 8);
-    ended(b"a_second_end", b"\x7F\x00\x00", 8, 8);
-    later(
-        b"a_record_behind",
-        b"\x7F\x00\x00\x01\x00\x04\x00\x00\x00\x01",
-        8,
-        8,
-    );
-    later(b"garbage_behind", b"\x7F\x00\x00\xFF\xFF\xFF", 8, 8);
-    later(
-        b"one_byte_behind_a_record",
-        b"\x01\x00\x04\x00\x00\x00\x01\x7F\x00\x00\x7F",
-        8,
-        15,
-    );
-    later(
-        b"a_header_behind",
-        b"\x7F\x00\x00\x10\x00\x02\x00\x02",
-        8,
-        8,
-    );
+// The lines of the text from a place on, to the next empty one; the place behind that.
+fn rows(text: &[u8], from: usize, room: &mut [u8], start: usize) -> usize {
+    let mut at = from;
+    while at < text.len() {
+        if text[at] == b'\n' {
+            return at + 1;
+        }
+        let next = row(text, at, room, start);
+        if next <= at {
+            return at;
+        }
+        at = next;
+    }
+    at
 }
 
 // What an accepted job is known by: N, the records, the questions, the needed room.
 fn known(name: &[u8], bytes: &[u8]) {
     io::write_all(1, name);
-    match job::read_job(bytes) {
-        job::Answer::Refused { fault, place } => {
+    match job_read::read_job(bytes) {
+        job_read::Answer::Refused { fault, place } => {
             pair(byte(job::number_of(fault)), size(place));
         }
-        job::Answer::Accepted {
+        job_read::Answer::Accepted {
             size: tags,
             records,
             questions,
@@ -572,172 +415,36 @@ fn front_known(name: &[u8], room: &[u8], n: usize) {
     }
 }
 
-// What is put at a place of the room, and the job that ends behind it.
-fn tried(name: &[u8], room: &mut [u8], at: usize, rest: &[u8], number: u64, place: u64) {
-    let n = put(room, at, rest);
-    front(name, room, n, number, place);
-}
-
 fn tried_known(name: &[u8], room: &mut [u8], at: usize) {
     let n = put(room, at, b"\x7F\x00\x00");
     front(name, room, n, 0, 0);
     front_known(name, room, n);
 }
 
-// The 4,001st record, 01 and 02 together.
-fn record_4001(room: &mut [u8], at: usize) {
-    tried(
-        b"records_4001",
-        room,
-        at,
-        b"\x01\x00\x04\x00\x00\x00\x01",
-        7,
-        28005,
-    );
-    tried(
-        b"records_4001_tag_n",
-        room,
-        at,
-        b"\x01\x00\x04\x00\x00\x00\x02",
-        7,
-        28005,
-    );
-    tried(
-        b"records_4001_02",
-        room,
-        at,
-        b"\x02\x00\x06\x00\x00\x00\x00\x00\x00",
-        7,
-        28005,
-    );
-}
-
-// The limit comes behind the body, and is no limit of questions.
-fn records_4000(room: &mut [u8], at: usize) {
-    tried(
-        b"records_4001_cut",
-        room,
-        at,
-        b"\x01\x00\x04\x00\x00\x00",
-        3,
-        28005,
-    );
-    tried(
-        b"records_4001_length",
-        room,
-        at,
-        b"\x01\x00\x05\x00\x00\x00\x00\x00",
-        5,
-        28005,
-    );
-    tried(
-        b"records_4000_ask",
-        room,
-        at,
-        b"\x03\x00\x04\x00\x00\x00\x01\x7F\x00\x00",
-        0,
-        0,
-    );
-}
-
-fn records(room: &mut [u8]) {
+// The 4,001st record, 01 and 02 together; the limit comes behind the body, and is no limit of questions.
+fn records(text: &[u8], from: usize, room: &mut [u8]) -> usize {
     let begun = put(room, 0, b"\x10\x00\x02\x00\x02");
     let full = repeat(room, begun, b"\x01\x00\x04\x00\x00\x00\x01", 4000);
     tried_known(b"records_4000", room, full);
-    record_4001(room, full);
-    records_4000(room, full);
+    rows(text, from, room, full)
 }
 
 // The 1,001st question, 03 and 04 together.
-fn question_1001(room: &mut [u8], at: usize) {
-    tried(
-        b"questions_1001_ask",
-        room,
-        at,
-        b"\x03\x00\x04\x00\x00\x00\x01",
-        7,
-        7005,
-    );
-    tried(
-        b"questions_1001_explain",
-        room,
-        at,
-        b"\x04\x00\x04\x00\x00\x00\x01",
-        7,
-        7005,
-    );
-    tried(
-        b"questions_1001_tag_n",
-        room,
-        at,
-        b"\x03\x00\x04\x03\xE8\x00\x00",
-        7,
-        7005,
-    );
-}
-
-fn questions_1000(room: &mut [u8], at: usize) {
-    tried(
-        b"questions_1001_cut",
-        room,
-        at,
-        b"\x04\x00\x04\x00",
-        3,
-        7005,
-    );
-    tried(
-        b"questions_1000_record",
-        room,
-        at,
-        b"\x01\x00\x04\x00\x00\x00\x01\x7F\x00\x00",
-        0,
-        0,
-    );
-}
-
-fn questions(room: &mut [u8]) {
+fn questions(text: &[u8], from: usize, room: &mut [u8]) -> usize {
     let begun = put(room, 0, b"\x10\x00\x02\x03\xE8");
     let half = repeat(room, begun, b"\x03\x00\x04\x03\xE7\x00\x00", 500);
     let full = repeat(room, half, b"\x04\x00\x04\x00\x00\x03\xE7", 500);
     tried_known(b"questions_1000", room, full);
-    question_1001(room, full);
-    questions_1000(room, full);
+    rows(text, from, room, full)
 }
 
 // The longest job, of 43,008 bytes, and what may not follow in it.
-fn beyond(room: &mut [u8], at: usize) {
-    tried(
-        b"longest_and_a_record",
-        room,
-        at,
-        b"\x01\x00\x04\x00\x00\x00\x01",
-        7,
-        43005,
-    );
-    tried(
-        b"longest_and_an_ask",
-        room,
-        at,
-        b"\x03\x00\x04\x00\x00\x00\x01",
-        7,
-        43005,
-    );
-    tried(
-        b"longest_and_a_byte",
-        room,
-        at,
-        b"\x7F\x00\x00\x00",
-        8,
-        43008,
-    );
-}
-
-fn longest(room: &mut [u8]) {
+fn longest(text: &[u8], from: usize, room: &mut [u8]) -> usize {
     let begun = put(room, 0, b"\x10\x00\x02\x03\xE8");
     let all = repeat(room, begun, b"\x02\x00\x06\x03\xE7\x00\x00\x03\xE7", 4000);
     let full = repeat(room, all, b"\x04\x00\x04\x00\x00\x03\xE7", 1000);
     tried_known(b"longest", room, full);
-    beyond(room, full);
+    rows(text, from, room, full)
 }
 
 // Numbers that look like none, from 0 to 2,147,483,647.
@@ -746,19 +453,44 @@ fn stirred(state: u64) -> u64 {
     (s * 1103515245 + 12345) % 2147483648
 }
 
-// One of sixteen pieces of a job with N = 5, most of them whole fields.
-fn piece(room: &mut [u8], at: usize, x: u64) -> usize {
+// Sixteen pieces of a job with N = 5, most of them whole fields, stand one behind the other; each has a place and a size.
+struct Part {
+    from: usize,
+    size: usize,
+}
+
+fn part_of(x: u64) -> Part {
     match (x / 65536) % 16 {
-        0..=3 => put(room, at, b"\x01\x00\x04\x00\x00\x00\x04"),
-        4..=6 => put(room, at, b"\x02\x00\x06\x00\x00\x00\x04\x00\x01"),
-        7 | 8 => put(room, at, b"\x03\x00\x04\x00\x00\x00\x04"),
-        9 | 10 => put(room, at, b"\x04\x00\x04\x00\x03\x00\x01"),
-        11 => put(room, at, b"\x01\x00\x04\x00\x00\x00\x05"),
-        12 => put(room, at, b"\x7F\x00\x00"),
-        13 => put(room, at, b"\x04\x00\x05\x00\x00\x00\x00\x00"),
-        14 => put(room, at, b"\x10\x00\x02\x00\x05"),
-        _ => put(room, at, b"\x02"),
+        0..=3 => Part { from: 0, size: 7 },
+        4..=6 => Part { from: 7, size: 9 },
+        7 | 8 => Part { from: 16, size: 7 },
+        9 | 10 => Part { from: 23, size: 7 },
+        11 => Part { from: 30, size: 7 },
+        12 => Part { from: 37, size: 3 },
+        13 => Part { from: 40, size: 8 },
+        14 => Part { from: 48, size: 5 },
+        _ => Part { from: 53, size: 1 },
     }
+}
+
+fn put_part(room: &mut [u8], at: usize, all: &[u8], p: Part) -> usize {
+    let from = p.from;
+    if all.len() < from {
+        return at;
+    }
+    if all.len() - from < p.size {
+        return at;
+    }
+    put(room, at, &all[from..from + p.size])
+}
+
+fn piece(room: &mut [u8], at: usize, x: u64) -> usize {
+    put_part(
+        room,
+        at,
+        b"\x01\x00\x04\x00\x00\x00\x04\x02\x00\x06\x00\x00\x00\x04\x00\x01\x03\x00\x04\x00\x00\x00\x04\x04\x00\x04\x00\x03\x00\x01\x01\x00\x04\x00\x00\x00\x05\x7F\x00\x00\x04\x00\x05\x00\x00\x00\x00\x00\x10\x00\x02\x00\x05\x02",
+        part_of(x),
+    )
 }
 
 // The length of a job of up to fifteen such pieces, and the number that its last piece was picked by.
@@ -800,10 +532,10 @@ fn garbage(room: &mut [u8], number: u64, turns: u64) -> Tally {
     t
 }
 
-fn large(room: &mut [u8]) {
-    records(room);
-    questions(room);
-    longest(room);
+fn large(text: &[u8], from: usize, room: &mut [u8]) -> usize {
+    let second = records(text, from, room);
+    let third = questions(text, second, room);
+    longest(text, third, room)
 }
 
 fn tallied(name: &[u8], number: u64, t: Tally) {
@@ -842,26 +574,8 @@ fn single_changes(bytes: &mut [u8]) {
     changes_of(bytes, 8);
 }
 
-fn table() {
-    no_first_field();
-    wrong_first_field();
-    header_lengths();
-    header_numbers();
-    stray_bytes();
-    misplaced_kinds();
-    end_lengths();
-    body_lengths();
-    bodies_cut();
-    ends_cut();
-    record_tags();
-    question_tags();
-    tag_limits();
-    later_tags();
-    behind_the_end();
-}
-
-fn main() {
-    table();
+// The inspector's job, its truncations and its changes.
+fn inspected() {
     let mut job = inspector();
     case(b"inspector", &job, 0, 0);
     known(b"inspector", &job);
@@ -869,7 +583,34 @@ fn main() {
     io::print_decimal(1, cuts(&job));
     io::write_all(1, b"\n");
     single_changes(&mut job);
-    let mut room = [0u8; 50000];
-    large(&mut room);
-    mixtures(&mut room);
+}
+
+fn all(text: &[u8], room: &mut [u8]) {
+    let next = rows(text, 0, room, 0);
+    inspected();
+    large(text, next, room);
+    mixtures(room);
+}
+
+// What standard input holds comes to the front of the text.
+fn begun(text: &mut [u8], room: &mut [u8]) {
+    let got = read_input(text);
+    match got {
+        Got::Bytes(n) => {
+            if n <= text.len() {
+                all(&text[..n], room);
+            }
+        }
+        Got::Broken => {
+            io::write_all(1, b"no vectors\n");
+        }
+    }
+}
+
+fn main() {
+    let mut text_space = [0u8; 8192];
+    let text: &mut [u8] = &mut text_space;
+    let mut room_space = [0u8; 50000];
+    let room: &mut [u8] = &mut room_space;
+    begun(text, room);
 }

@@ -1,5 +1,4 @@
--- A line is put number by number: what was opened goes on with the numbers that follow, and its end closes it.
--- The numbers of a body are taken two bytes at a time.
+-- The numbers of a body are taken two bytes at a time, and are what a line of a reason has.
 -- Assumes nothing.
 use Prim.Native.Nat.{ℕ, suc, _+_, _-_, _/_, _≤_, _<_, min}
 use native.Mathlib.Omega.{arith}
@@ -10,39 +9,15 @@ use lib.ListN.{length, getD, take, drop, length-take, drop-of-length-le}
 use lib.Seq.{slice, slice-cons, slice-empty, length-slice, take-all}
 use Rattle.job.specs.Reading.{numberAt}
 use borrow.Author.Tests.{eq-eqb, ne-eqb}
-use Rattle.lines.specs.Lines.{digits, parted, line, numbersIn, bodyOf, askLine, explainLine}
-use Rattle.lines.specs.Told.{Put}
-use Rattle.lines.proofs.Putting.{put-then, put-as}
-
-pub parted-append : (a b : List ℕ) → parted (a ++ b) ≡ parted a ++ parted b
-unfolding parted
-parted-append [] b = refl
-parted-append (n ∷ a) b = rw (parted-append a b, append-assoc)
-
-pub parted-one : (n : ℕ) → 32 ∷ digits n ≡ parted (n ∷ [])
-unfolding parted
-parted-one n = simp append-nil
-
-pub put-more : (ns ms : List ℕ) {letter : ℕ} {room mid room′ : List ℕ} {at m next : ℕ} → Put (letter ∷ parted ns) room at mid m → Put (parted ms) mid m room′ next → Put (letter ∷ parted (ns ++ ms)) room at room′ next
-put-more ns ms begun p = put-as (rw parted-append) (put-then begun p)
-
-pub put-ended : (ns : List ℕ) {letter : ℕ} {room mid room′ : List ℕ} {at m next : ℕ} → Put (letter ∷ parted ns) room at mid m → Put (10 ∷ []) mid m room′ next → Put (line letter ns) room at room′ next
-unfolding line
-put-ended ns begun p = put-then begun p
+use Rattle.line_text.specs.Line.{parted, line}
+use Rattle.line_text.proofs.Parted.{parted-append}
+use Rattle.lines.specs.Lines.{numbersIn, bodyOf, explainLine}
 
 pub length-numbers : (bytes : List ℕ) → length (numbersIn bytes) ≡ length bytes / 2
 unfolding numbersIn
 length-numbers [] = refl
 length-numbers (high ∷ []) = refl
 length-numbers (high ∷ low ∷ bytes) = omega (arith, length-numbers bytes)
-
-pub askLine-same : (s t l m : ℕ) → l ≡ m → line 83 (s ∷ t ∷ l ∷ []) ≡ askLine s t l m
-unfolding askLine
-askLine-same s t l m e = rw (eq-eqb l m e)
-
-pub askLine-apart : (s t l m : ℕ) → (l ≡ m → ⊥) → line 68 (s ∷ t ∷ l ∷ m ∷ []) ≡ askLine s t l m
-unfolding askLine
-askLine-apart s t l m e = rw (ne-eqb l m e)
 
 -- The numbers of a part of the report, one after the other, until fewer than two bytes are left.
 pub numbers-next : (report : List ℕ) (p stop : ℕ) → p + 2 ≤ stop → stop ≤ length report → parted (numbersIn (slice p stop report)) ≡ parted (numberAt report p ∷ []) ++ parted (numbersIn (slice (p + 2) stop report))

@@ -15,8 +15,9 @@ use Rattle.job.specs.Items.{Item, noted, ask, explain, accepted, questionsOf}
 use Rattle.job.specs.Reading.{byteAt, numberAt, reading}
 use Rattle.job.specs.Standing.{Stands, ends, next}
 use Rattle.job.proofs.Standing.{accepted-stands}
-use Rattle.lines.specs.Lines.{digits, parted, line, numbersIn, bodyOf, askLine, explainLine, lineOf, totalsLine, linesOf, refusalLine}
-use Rattle.lines.proofs.Digits.{digits-one, digits-more}
+use Rattle.line_text.specs.Line.{digits, parted, line, askLine}
+use Rattle.lines.specs.Lines.{numbersIn, bodyOf, explainLine, lineOf, totalsLine, linesOf, refusalLine}
+use Rattle.line_text.proofs.Digits.{digits-one, digits-more}
 use Rattle.lines.proofs.Parts.{length-numbers}
 
 abbrev tens : ℕ → ℕ

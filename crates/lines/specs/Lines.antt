@@ -1,31 +1,14 @@
 -- Document 01, "The program": tagcheck writes one line an item, fields parted by one space, decimal. The text of a job's items and of
 -- their report, byte by byte.
 -- Assumes nothing.
-use Prim.Native.Nat.{ℕ, zero, suc, _+_, _*_, _/_, _%_}
+use Prim.Native.Nat.{ℕ, _+_, _*_}
 use mathlib.Core.Bool.{cond}
 use mathlib.Core.List.{List, [], _∷_, _++_}
-use lib.Dec.{eqb, ltb}
+use lib.Dec.{eqb}
 use lib.ListN.{length, take, drop}
 use Rattle.job.specs.Items.{Item, noted, ask, explain, Reading, refused, accepted}
 use Rattle.job.specs.Reading.{byteAt, numberAt}
-
--- A number in decimal, with no zero before it; 0 is the digit 0, byte 48. A digit fewer is left at each turn, so that a number has
--- fewer digits than itself and one (proofs/Digits, digits-enough).
-unfoldable pub digitsBy : ℕ → ℕ → List ℕ
-digitsBy zero n = []
-digitsBy (suc turns) n = cond (ltb n 10) ((48 + n) ∷ []) (digitsBy turns (n / 10) ++ ((48 + n % 10) ∷ []))
-
-unfoldable pub digits : ℕ → List ℕ
-digits n = digitsBy (suc n) n
-
--- Fields parted by one space, byte 32: each number of a line has the space before it.
-unfoldable pub parted : List ℕ → List ℕ
-parted [] = []
-parted (n ∷ ns) = 32 ∷ (digits n ++ parted ns)
-
--- A line is a letter and numbers, and byte 10 ends it.
-unfoldable pub line : ℕ → List ℕ → List ℕ
-line letter ns = letter ∷ (parted ns ++ (10 ∷ []))
+use Rattle.line_text.specs.Line.{line, askLine}
 
 -- The numbers of a body: two bytes each, high byte first.
 unfoldable pub numbersIn : List ℕ → List ℕ
@@ -36,10 +19,6 @@ numbersIn (high ∷ low ∷ bytes) = (high * 256 + low) ∷ numbersIn bytes
 -- A field is one kind byte, a two-byte length, then the body. A byte that is not there counts as 0.
 unfoldable pub bodyOf : List ℕ → List ℕ
 bodyOf report = drop 3 (take (3 + numberAt report 1) report)
-
--- `S s t l` (ask, same, leader), `D s t l m` (ask, different, both leaders).
-unfoldable pub askLine : ℕ → ℕ → ℕ → ℕ → List ℕ
-askLine s t l m = cond (eqb l m) (line 83 (s ∷ t ∷ l ∷ [])) (line 68 (s ∷ t ∷ l ∷ m ∷ []))
 
 -- `E s t k` and k record numbers, for a field of kind 84 hex (132); `N s t` (explain, does not follow).
 unfoldable pub explainLine : ℕ → ℕ → ℕ → List ℕ → List ℕ

@@ -1,21 +1,14 @@
--- What the code answers: where a text stands once it is put into a room of bytes, and whether all of it is there.
+-- What the code answers: whether all of a text is there once it is put into a room of bytes.
 -- Assumes nothing.
-use Prim.Native.Nat.{ℕ, _+_, _≤_, _<_, min}
+use Prim.Native.Nat.{ℕ, _≤_, _<_}
 use mathlib.Core.Path.{_≡_}
 use mathlib.Core.List.{List, [], _++_}
 use lib.ListN.{length, take, drop}
-use lib.Seq.{sets}
 use Rattle.job.specs.Items.{Item, accepted}
 use Rattle.job.specs.Reading.{Field, bad, header, item, end, reading}
 use Rattle.lines.specs.Lines.{lineOf, widthOf, totalsLine}
 use Rattle.lines.specs.declared.Told.{Told}
 use Rattle.lines.specs.declared.Told.the-variants.{Whole, Full}
-
--- A text was put into the room from a place on, as far as the room goes, and the next byte stands behind it. One place past the
--- room's end stands for every place further on: then the text did not fit.
-pub record Put (text room : List ℕ) (at : ℕ) (room′ : List ℕ) (next : ℕ) : Type 0 where
-  pub bytes : room′ ≡ sets room at text
-  pub place : next ≡ min (at + length text) (length room + 1)
 
 -- The whole text stands at the room's front and every byte behind it is as it was; or the text is longer than the room, which then
 -- holds as much of it as there is room for.
@@ -27,12 +20,6 @@ pub data Tells (text room room′ : List ℕ) : Told → Type 0 where
 pub data Ended (next room : ℕ) : Told → Type 0 where
   within : next ≤ room → Ended next room (Whole next)
   past : room < next → Ended next room Full
-
--- Part of a text is put, and the rest is still to come.
-pub record Half (text rest room : List ℕ) (at : ℕ) (room′ : List ℕ) (next : ℕ) : Type 0 where
-  pub done : List ℕ
-  pub put : Put done room at room′ next
-  pub left : done ++ rest ≡ text
 
 -- What a field of the job adds to the text, with the report from its own field on, and how far it goes in the report.
 abbrev pub textAt : Field → List ℕ → List ℕ

@@ -11,12 +11,12 @@ use lib.Seq.{getD-set-same, getD-set-other}
 use Rattle.meaning.proofs.Rising.{above-all}
 use Rattle.table.specs.Map.{listOf, listIn, Loaded, Within}
 use Rattle.table.proofs.Frame.{seen-at, seen-within, gather-in, length-gather, within-refl, within-trans, within-wider, within-set}
-use Rattle.closure.specs.Past.{Past}
+use Rattle.history.specs.Past.{Past}
 use Rattle.closure.specs.Closing.{Listed}
+use Rattle.following.proofs.Kept.{kept-loaded, kept-past}
+use Rattle.sparing.proofs.Gathering.{list-hit, list-miss}
 use Rattle.reasons.specs.Explaining.{Explained}
 use Rattle.reasons.specs.declared.Answer.the-variants.{Because}
-use Rattle.reasons.proofs.Kept.{kept-loaded, kept-past}
-use Rattle.reasons.proofs.Gathering.{list-hit, list-miss}
 use Rattle.reason_cases.specs.Front.{Fronted}
 
 -- The closure's scratch is no part of the list.

@@ -3,7 +3,7 @@ ghost use mathlib.Core.Path.{_≡_};
 ghost use Prim.Native.Nat.{ℕ, suc, _≤_, _<_};
 ghost use lib.ListN.{length};
 ghost use Rattle.table.specs.Map.{Loaded, Within};
-ghost use Rattle.closure.specs.Past.{Past};
+ghost use Rattle.history.specs.Past.{Past};
 ghost use Rattle.closure.specs.Closing.{Listed};
 ghost use Rattle.reason_cases.specs.Front.{Fronted};
 use meaning::RecordNo;

@@ -29,7 +29,7 @@ fn run(script: &[u8], work: &mut [u16], at: usize)
         return;
     }
     let len = loading::load(script, work, size, at);
-    let totals = closure::close(work, size, len);
+    let totals = history::close(work, size, len);
     asking::answer_all(script, work, size, len, totals.joins, at);
 }
 

@@ -1,10 +1,2 @@
-pub mod Climb
-pub mod Kept
-pub mod Known
-pub mod Moments
-pub mod Crossing
-pub mod Gathering
-pub mod Sparing
-pub mod Differing
 pub mod Noting
 pub mod Whole

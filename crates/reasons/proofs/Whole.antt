@@ -21,19 +21,19 @@ use Rattle.meaning.proofs.Reference.{Small}
 use Rattle.meaning.proofs.Exact.{reason-of, reason-same}
 use Rattle.table.specs.Map.{whenOf, firstOf, secondOf, listOf, listIn, recAt, recordsIn, joinAt, Loaded, Within}
 use Rattle.table.proofs.Frame.{length-gather, getD-gather, gather-in, within-refl, within-trans, within-wider}
-use Rattle.closure.specs.Past.{Past, ageAfter}
-use Rattle.reasons.specs.Meeting.{Met}
-use Rattle.reasons.specs.Tracing.{marked, Holds, Together, Traced, Unmarked}
-use Rattle.reasons.specs.Listing.{waitingIn, Gathered}
-use Rattle.reasons.specs.Trimming.{Pruned, Followed}
-use Rattle.reasons.specs.Comparing.{Comparing}
+use Rattle.history.specs.Past.{Past, ageAfter}
+use Rattle.following.specs.Meeting.{Met}
+use Rattle.following.specs.Tracing.{marked, Holds, Together, Traced, Unmarked}
+use Rattle.following.proofs.Kept.{kept-records, kept-joins, kept-past, kept-loaded, kept-marks}
+use Rattle.following.proofs.Known.{join-one, join-two}
+use Rattle.following.proofs.Moments.{met-first, met-join, met-later, met-never, made-by}
+use Rattle.following.proofs.Crossing.{kept-leader, unmarked-supported}
+use Rattle.sparing.specs.Listing.{waitingIn, Gathered}
+use Rattle.sparing.specs.Trimming.{Pruned, Followed}
+use Rattle.sparing.specs.Comparing.{Comparing}
 use Rattle.reasons.specs.Rising.{Numbered, Sorted}
 use Rattle.reasons.specs.Explaining.{Question, Explained, Joining, Reasoned}
 use Rattle.reasons.specs.declared.Answer.the-variants.{Because, Apart}
-use Rattle.reasons.proofs.Kept.{kept-records, kept-joins, kept-past, kept-loaded, kept-marks}
-use Rattle.reasons.proofs.Known.{join-one, join-two}
-use Rattle.reasons.proofs.Moments.{met-first, met-join, met-later, met-never, made-by}
-use Rattle.reasons.proofs.Crossing.{kept-leader, unmarked-supported}
 
 -- Fewer marks and fewer joins use fewer records.
 keep-less : (b : Bool) (L : List ℕ) (k : ℕ) → List·Memᴰ k (keep b L) → List·Memᴰ k L

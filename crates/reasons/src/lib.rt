@@ -1,16 +1,11 @@
 // Reasons: for two tags that are equal by the records before a question, a list of record numbers that is a reason. Document 01,
-// "Reasons". Rests on closure, whose joins it follows and whose second call decides what a list entails, and on table.
+// "Reasons". Rests on following, which marks the joins between the tags, on sparing, which lists their records and takes out the spare
+// ones, and on table.
 ghost use Prim.Native.Nat.{ℕ, _≤_, _<_};
 ghost use Rattle.reasons.specs.Explaining.{Question, Explained, Joining, Reasoned};
 use meaning::Tag;
 
-pub mod comparing;
-pub mod listing;
-pub mod meeting;
-pub mod notes;
 pub mod rising;
-pub mod tracing;
-pub mod trimming;
 
 // What is said of two tags: so many numbers of the list are a reason for them, or their equality does not follow.
 pub enum Answer {
@@ -31,10 +26,10 @@ fn reason(
     requires { ⌜ Joining size len joins (s .0) (t .0) b (now work) ⌝ }
     ensures { λ c. ⌜ Reasoned size len (s .0) (t .0) b (now (work .entry)) (now (work .exit)) c ⌝ }
 {
-    tracing::unmark_all(work, joins);
-    tracing::trace(work, s, t, b + 1);
-    let n = listing::list_marked(work, b + 1);
-    let kept = comparing::prune(work, size, len, b + 1, n, s, t);
+    following::tracing::unmark_all(work, joins);
+    following::tracing::trace(work, s, t, b + 1);
+    let n = sparing::listing::list_marked(work, b + 1);
+    let kept = sparing::comparing::prune(work, size, len, b + 1, n, s, t);
     rising::put_rising(work, len, kept)
 }
 
@@ -54,11 +49,11 @@ pub fn explain(
     if s.0 == t.0 {
         return Answer::Because(0);
     }
-    let b = meeting::met(work, s, t);
+    let b = following::meeting::met(work, s, t);
     if b >= joins {
         return Answer::Apart;
     }
-    if meeting::made(work, b) > before {
+    if following::meeting::made(work, b) > before {
         return Answer::Apart;
     }
     Answer::Because(reason(work, size, len, joins, b, s, t))

@@ -15,25 +15,27 @@ use Rattle.job.specs.Reading.{fieldAt, bad, header, item, end, spanOf, itemsIn}
 use Rattle.job.specs.Standing.{Tagged, Met}
 use Rattle.job.proofs.Standing.{stands-item, stands-end, stands-not-bad, stands-not-header, stands-within}
 use Rattle.table.specs.Map.{Within}
-use Rattle.reasons.proofs.Kept.{kept-records, kept-past}
+use Rattle.following.proofs.Kept.{kept-records, kept-past}
 use Rattle.report.specs.Report.{numbers, field, Answers, Totalled, total, Sound, totals, passed, answered}
 use Rattle.report.specs.Fault.{Stands, FaultAt, past, behind, leaders, reason, closing, spare}
 use Rattle.report.proofs.Fits.{totalled-length}
-use Rattle.report.proofs.Read.{holds-room}
+use Rattle.report_read.proofs.Read.{holds-room}
 use Rattle.meaning.specs.declared.Tag.{Tag}
 use Rattle.recheck.specs.declared.Closed.{Closed}
-use Rattle.recheck.specs.declared.Question.{Question}
+use Rattle.reason_test.specs.declared.Question.{Question}
 use Rattle.recheck.specs.declared.Turn.{Turn}
 use Rattle.recheck.specs.declared.Judgement.{Judgement}
-use Rattle.recheck.specs.declared.Passed.{Passed}
-use Rattle.recheck.specs.declared.Passed.the-variants.{To, Wrong}
+use Rattle.field_test.specs.declared.Passed.{Passed}
+use Rattle.field_test.specs.declared.Passed.the-variants.{To, Wrong}
 use Rattle.recheck.specs.declared.Stand.{Stand}
 use Rattle.recheck.specs.declared.Turn.the-variants.{On, Done}
 use Rattle.recheck.specs.Judging.{Judgeable, Verdict, sound, fault}
-use Rattle.recheck.specs.Right.{Posed, RightAt, to, wrong, Ended, AskAnswer, ExplainAnswer, question}
-use Rattle.recheck.specs.Right as r
+use Rattle.reason_test.specs.Posed.{Posed}
+use Rattle.field_test.specs.Right.{RightAt, to, wrong, AskAnswer, ExplainAnswer}
+use Rattle.recheck.specs.Ended.{Ended, question}
+use Rattle.recheck.specs.Ended as r
 use Rattle.recheck.specs.Going.{Going, Turned, on, done, behind as turnBehind}
-use Rattle.recheck.proofs.Right.{found}
+use Rattle.field_test.proofs.Right.{found}
 
 -- The table's data are kept by what writes only from the list on.
 pub judgeable-kept : {job w w′ : List ℕ} {N len joins idle e : ℕ} → Within 17003 e w w′ → Judgeable job w N len joins idle → Judgeable job w′ N len joins idle

@@ -1,4 +1,3 @@
-pub mod Judging
-pub mod Right
-pub mod Lists
+pub mod Ended
 pub mod Going
+pub mod Judging

@@ -3,7 +3,3 @@ pub mod Fits
 pub mod Laid
 pub mod Written
 pub mod Fault
-pub mod Read
-pub mod Listing
-pub mod Right
-pub mod Decided

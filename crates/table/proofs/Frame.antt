@@ -7,13 +7,13 @@ use mathlib.Core.Path.{_≡_, refl, sym, _∙_, ap, fun-ext}
 use mathlib.Core.Logic.{_≢_, _⊎_, inl, inr}
 use mathlib.Core.Bool.{Bool, true, false, cond}
 use mathlib.Core.List.{List, [], _∷_, _++_, List·Memᴰ, List·Memᴰ·head, List·Memᴰ·tail, List·Memᴰ·append-cases, List·Memᴰ·eq-of-singleton, List·Memᴰ·not-nil, Memᴰ·append-left, Memᴰ·append-right}
-use lib.Dec.{ltb}
-use borrow.Author.Tests.{lt-ltb, le-ltb}
+use lib.Dec.{eqb, leb, ltb}
+use borrow.Author.Tests.{lt-ltb, le-ltb, le-leb, lt-leb, eq-eqb, ne-eqb}
 use lib.ListN.{length, getD, set, length-set, length-append, List·getD-append}
 use lib.Seq.{getD-set-same, getD-set-other, getD-append-seam}
 use Rattle.meaning.specs.Joins.{put}
 use Rattle.meaning.proofs.Log.{put-hit, put-miss}
-use Rattle.table.specs.Map.{seen, gather, Within}
+use Rattle.table.specs.Map.{seen, chainIn, gather, Within}
 
 module _ (at size : ℕ) (past : ℕ → ℕ) where
   -- Within its size a region is the table; past it, the rule.
@@ -77,6 +77,28 @@ within-set a e w j v l k = record { size = length-set w j v; same = λ i h. getD
     other : (i : ℕ) → (i < a) ⊎ (e ≤ i) → i ≢ j
     other i (inl h) q = omega arith
     other i (inr h) q = omega arith
+
+-- Where the lists of uses stand.
+pub uses-most : (b : Bool) → cond b 31764 30764 ≤ 31764
+uses-most true = omega arith
+uses-most false = omega arith
+
+pub mores-most : (b : Bool) → cond b 22003 17003 ≤ 22003
+mores-most true = omega arith
+mores-most false = omega arith
+
+-- A number up to 4,001 is that of a chain; a larger one is that of a place that waits.
+pub chain-low : (v : ℕ) → v ≤ 4001 → chainIn v ≡ v
+chain-low v l = rw (le-leb v 4001 l)
+
+pub chain-high : (v : ℕ) → 4002 ≤ v → chainIn v ≡ 0
+chain-high v l = rw (lt-leb v 4001 l)
+
+pub waits-is : (v : ℕ) → 0 < v → leb 4002 v ≡ eqb (chainIn v) 0
+waits-is v l = elim (decLt v 4002) [
+  | yes k ↦ lt-leb 4002 v k ∙ sym (ne-eqb (chainIn v) 0 (λ e. let z = chain-low v (omega arith) in omega arith))
+  | no k ↦ le-leb 4002 v (omega arith) ∙ sym (eq-eqb (chainIn v) 0 (chain-high v (omega arith)))
+]
 
 -- Gathered lists.
 module _ {A : Type 0} where

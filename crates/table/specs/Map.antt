@@ -1,12 +1,12 @@
 -- The work table as the layers above see it: each named region is a function from its own numbers, and the records, the
 -- list and the joins that the table holds are read off these functions. The map itself is drawn in src/lib.rt.
 -- Assumes nothing.
-use Prim.Native.Nat.{ℕ, zero, suc, _+_, _≤_, _<_}
+use Prim.Native.Nat.{ℕ, zero, suc, _+_, _-_, _≤_, _<_}
 use mathlib.Core.Path.{_≡_}
 use mathlib.Core.Logic.{_⊎_}
 use mathlib.Core.Bool.{Bool, true, false, cond}
 use mathlib.Core.List.{List, [], _∷_, _++_}
-use lib.Dec.{eqb, ltb}
+use lib.Dec.{eqb, leb, ltb}
 use lib.ListN.{length, getD}
 use Rattle.meaning.specs.Following.{Rec, eq, app}
 use Rattle.meaning.specs.Joins.{Join, by, cong}
@@ -65,6 +65,31 @@ markOf w = seen 30096 1000 (λ x. 0) w
 -- By tag: a label that was saved.
 abbrev pub savedOf : List ℕ → ℕ → ℕ
 savedOf w = seen 31096 1000 (λ x. x) w
+
+-- While all records are closed, from the list on. By tag: one more than the last place whose record has it for its first argument (for its second, where `second` says so), or 0; by place:
+-- the same of the places before it, for the same tag.
+abbrev pub useOf : Bool → List ℕ → ℕ → ℕ
+useOf second w = seen (cond second 31764 30764) 1000 (λ x. 0) w
+
+abbrev pub moreOf : Bool → List ℕ → ℕ → ℕ
+moreOf second w = seen (cond second 22003 17003) 4000 (λ x. 0) w
+
+-- By place: up to 4,001, one more than the link of its chain; above, 4,002 more than the link of the list of those that wait. A place that waits stands in no chain.
+abbrev pub stateOf : List ℕ → ℕ → ℕ
+stateOf w = seen 26003 4000 (λ x. 0) w
+
+abbrev pub chainIn : ℕ → ℕ
+chainIn v = cond (leb v 4001) v 0
+
+abbrev pub chainOf : List ℕ → ℕ → ℕ
+chainOf w r = chainIn (stateOf w r)
+
+abbrev pub waitOf : List ℕ → ℕ → ℕ
+waitOf w r = stateOf w r - 4002
+
+-- By bucket: one more than the first place of the chain, or 0.
+abbrev pub bucketOf : List ℕ → ℕ → ℕ
+bucketOf w = seen 30003 761 (λ x. 0) w
 
 -- The first n values of f, in order.
 abbrev pub gather : {A : Type 0} → (ℕ → A) → ℕ → List A

@@ -46,10 +46,10 @@ use Rattle.records.specs.declared.Record.{Record}
 use Rattle.records.proofs.Rows.{big-lit, R, val, vals, tells, typed}
 use Rattle.records.proofs.Record as T
 use Rattle.records.proofs.Record.Laws as T′
-use Rattle.haltzurme.specs.declared.Finding.{Finding}
+use Rattle.parts.specs.declared.Finding.{Finding}
 use Rattle.haltzurme.specs.Recheck.{Rechecked}
-use Rattle.haltzurme.proofs.Finding as N
-use Rattle.haltzurme.proofs.Finding.Laws as N′
+use Rattle.parts.proofs.Finding as N
+use Rattle.parts.proofs.Finding.Laws as N′
 use Rattle.haltzurme.proofs.recheck as recheck-it
 use Rattle.haltzurme.proofs.recheck.Symbol as recheck-def
 use Rattle.haltzurme.proofs.recheck.Symbol.{name as #haltzurme·recheck}

@@ -47,10 +47,10 @@ use Rattle.records.specs.declared.Record.{Record}
 use Rattle.records.proofs.Rows.{big-lit, R, val, vals, tells, typed}
 use Rattle.records.proofs.Record as T
 use Rattle.records.proofs.Record.Laws as T′
-use Rattle.haltzurme.specs.declared.Answer.{Answer}
+use Rattle.parts.specs.declared.Answer.{Answer}
 use Rattle.haltzurme.specs.Run.{Ran}
-use Rattle.haltzurme.proofs.Answer as N
-use Rattle.haltzurme.proofs.Answer.Laws as N′
+use Rattle.parts.proofs.Answer as N
+use Rattle.parts.proofs.Answer.Laws as N′
 use Rattle.haltzurme.proofs.run as run-it
 use Rattle.haltzurme.proofs.run.Symbol as run-def
 use Rattle.haltzurme.proofs.run.Symbol.{name as #haltzurme·run}

@@ -6,12 +6,13 @@ use mathlib.Core.Path.{_≡_, ap, _∙_}
 use native.Mathlib.Omega.{arith}
 use denote.Ref.{now}
 use Prim.Native.Nat.{_%_, _≤_}
-use Rattle.closure.specs.Chain.{look}
-use Rattle.closure.specs.State.{keyIn, keyOf, reach, width, nextIn, headIn}
+use Rattle.labels.specs.Chain.{look}
+use Rattle.labels.specs.Parts.{keyIn, reach, width, nextIn, headIn}
+use Rattle.labels.proofs.Views.{bucket-low, width-most}
+use Rattle.closure.specs.State.{keyOf}
 use Rattle.closure.proofs.apply.Statement.{statement}
 use Rattle.closure.proofs.apply.Tie as tie
 use Rattle.closure.proofs.Rows.{row-readable}
-use Rattle.closure.proofs.Views.{bucket-low, width-most}
 use Rattle.closure.proofs.Steps.{apply-low, apply-falls, apply-found, apply-insert}
 
 listed-requires : tie.Need-listed-requires

@@ -1,30 +1,30 @@
--- `join` meets its contract. Labels that differ have a smaller one, and a join's ends may change places.
+-- `join` meets its contract. Labels that differ have a smaller one, and the two may change places.
 -- Assumes nothing.
 use borrow.Author.Needs.{needs}
 use native.Mathlib.Omega.{arith}
 use Rattle.closure.proofs.join.Statement.{statement}
 use Rattle.closure.proofs.join.Tie as tie
-use Rattle.closure.proofs.Uniting.{joining-flip}
+use Rattle.closure.proofs.Uniting.{united, joining-flip}
 
-unite-requires : tie.Need-unite-requires
-unite-requires c κs = (c .before .before .before .before .before .pre, c .before .if1 .taken)
+merge-requires : tie.Need-merge-requires
+merge-requires c κs = let s = c .before .before .before .before .before in (s .pre .listed .loaded .long, s .pre .listed .loaded .few, s .pre .tags .1, s .pre .own)
 
-unite-requires-2 : tie.Need-unite-requires-2
-unite-requires-2 c κs = let s = c .before .before .before .before .before in (joining-flip (s .pre), omega (arith, s .pre .apart, c .before .if1 .left))
+merge-requires-2 : tie.Need-merge-requires-2
+merge-requires-2 c κs = let s = c .before .before .before .before .before in (s .pre .listed .loaded .long, s .pre .listed .loaded .few, s .pre .tags .0, s .pre .own)
 
 same-length : tie.Need-same-length
 same-length c = search needs
 
 returns : tie.Need-returns
-returns c = c .before .before .unite .ensures
+returns c = united (c .before .before .before .before .before .before .before .before .pre) (c .before .before .before .before .if1 .taken) (c .before .before .merge .ensures)
 
 same-length-2 : tie.Need-same-length-2
 same-length-2 c = search needs
 
 returns-2 : tie.Need-returns-2
-returns-2 c = c .before .before .unite2 .ensures
+returns-2 c = let s = c .before .before .before .before .before .before .before .before in united (joining-flip (s .pre)) (omega (arith, s .pre .apart, c .before .before .before .before .if1 .left)) (c .before .before .merge2 .ensures)
 
 pub join-spec : {M : Type 1} → statement M
 join-spec =
     tie.close
-    (tie.spec unite-requires unite-requires-2 same-length returns same-length-2 returns-2)
+    (tie.spec merge-requires merge-requires-2 same-length returns same-length-2 returns-2)

@@ -33,7 +33,7 @@ loop-again : tie.Need-loop-again Inv-loop μ-loop
 loop-again c = let l = c .before .before .before .before .before in (omega arith, passed-step (l .loop .inv .1) (c .before .before .step .ensures))
 
 same-length : tie.Need-same-length Inv-loop μ-loop
-same-length c = c .before .loop .inv .1 .kept .frame .size ∙ c .before .before .before .before .clear .ensures .frame .size
+same-length c = c .before .loop .inv .1 .kept .size ∙ c .before .before .before .before .clear .ensures .frame .size
 
 returns : tie.Need-returns Inv-loop μ-loop
 returns c =

@@ -3,7 +3,7 @@
 use borrow.Author.Needs.{needs}
 use mathlib.Core.Path.{_∙_}
 use native.Mathlib.Omega.{arith}
-use Rattle.closure.proofs.Moments.{resume-start, entails-done}
+use Rattle.closure.proofs.Resting.{resume-start, entails-done}
 use Rattle.closure.proofs.resume.Statement.{statement}
 use Rattle.closure.proofs.resume.Tie as tie
 
@@ -20,7 +20,7 @@ level-requires : tie.Need-level-requires
 level-requires c κs = let p = c .before .before .before .before .before .before .before .before .before .before .before .pre in (c .before .before .before .settle .ensures .state .listed .loaded .long, omega (arith, p .2, p .0 .loaded .few), omega (arith, p .3, p .0 .loaded .few))
 
 same-length : tie.Need-same-length
-same-length c = c .before .before .before .before .settle .ensures .kept .frame .size ∙ c .before .before .before .before .before .before .before .before .before .restore .ensures .frame .size
+same-length c = c .before .before .before .before .settle .ensures .kept .size ∙ c .before .before .before .before .before .before .before .before .before .restore .ensures .frame .size
 
 returns : tie.Need-returns
 returns c = entails-done (c .before .before .before .before .before .before .alone .ensures) (c .before .before .before .before .before .before .before .before .before .restore .ensures .frame) (c .before .before .before .before .settle .ensures) (c .level .ensures)

@@ -6,13 +6,14 @@ use Prim.Native.Nat.{_-_, _≤_}
 use native.Mathlib.Omega.{arith}
 use denote.Ref.{now}
 use borrow.Author.Tests.{eq-eqb, ne-eqb}
-use Rattle.closure.specs.Chain.{seekTo, hits}
-use Rattle.closure.specs.State.{keyOf, nextTo}
+use Rattle.labels.specs.Chain.{seekTo, hits}
+use Rattle.labels.specs.Parts.{nextTo}
+use Rattle.labels.proofs.Chain.{seek-found, seek-next, seek-none}
+use Rattle.labels.proofs.Views.{next-is}
+use Rattle.closure.specs.State.{keyOf}
 use Rattle.closure.proofs.seek.Statement.{statement}
 use Rattle.closure.proofs.seek.Tie as tie
-use Rattle.closure.proofs.Chain.{seek-found, seek-next, seek-none}
 use Rattle.closure.proofs.Rows.{row-readable}
-use Rattle.closure.proofs.Views.{next-is}
 
 abbrev Inv-loop : tie.InvT-loop
 Inv-loop work from x p₀ p = (p ≤ from) × (seekTo (nextTo from work) (hits (keyOf work) x) p ≡ seekTo (nextTo from work) (hits (keyOf work) x) from)

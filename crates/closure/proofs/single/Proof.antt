@@ -6,10 +6,11 @@ use native.Mathlib.Omega.{arith}
 use denote.Ref.{now}
 use Prim.Native.Nat.{ℕ, _%_, _≤_}
 use Rattle.table.proofs.Frame.{within-refl}
-use Rattle.closure.specs.Chain.{look}
-use Rattle.closure.specs.State.{keyIn, keyOf, reach, width, nextIn, headIn}
+use Rattle.labels.specs.Chain.{look}
+use Rattle.labels.specs.Parts.{keyIn, reach, width, nextIn, headIn}
+use Rattle.labels.proofs.Views.{bucket-low, width-most}
+use Rattle.closure.specs.State.{keyOf}
 use Rattle.closure.proofs.Rows.{row-readable}
-use Rattle.closure.proofs.Views.{bucket-low, width-most}
 use Rattle.closure.proofs.Steps.{apply-low, apply-falls, apply-found}
 use Rattle.closure.proofs.Singles.{single-new}
 use Rattle.closure.proofs.single.Statement.{statement}

@@ -42,12 +42,12 @@ use denote.Exit.{yes}
 use denote.Signature.{plain}
 use Rattle.records.specs.declared.Record.{Record}
 use Rattle.records.proofs.Rows.{big-lit, then-of, R, gives-up}
-use Rattle.haltzurme.specs.declared.Finding.{Finding}
+use Rattle.parts.specs.declared.Finding.{Finding}
 use Rattle.haltzurme.specs.Run.{Lent}
 use Rattle.haltzurme.specs.Recheck as spec
 use Rattle.haltzurme.specs.Recheck.{Rechecked}
-use Rattle.haltzurme.proofs.Finding as N
-use Rattle.haltzurme.proofs.Finding.Laws as N′
+use Rattle.parts.proofs.Finding as N
+use Rattle.parts.proofs.Finding.Laws as N′
 use Rattle.haltzurme.proofs.look_over as over
 use Rattle.haltzurme.proofs.look_over.Symbol as over-def
 use Rattle.haltzurme.proofs.look_over.Symbol.{name as #haltzurme·look-over}

@@ -42,11 +42,11 @@ use denote.Exit.{yes}
 use denote.Signature.{plain}
 use Rattle.records.specs.declared.Record.{Record}
 use Rattle.records.proofs.Rows.{big-lit, then-of, R, gives-up}
-use Rattle.haltzurme.specs.declared.Answer.{Answer}
+use Rattle.parts.specs.declared.Answer.{Answer}
 use Rattle.haltzurme.specs.Run as spec
 use Rattle.haltzurme.specs.Run.{Lent, Ran}
-use Rattle.haltzurme.proofs.Answer as N
-use Rattle.haltzurme.proofs.Answer.Laws as N′
+use Rattle.parts.proofs.Answer as N
+use Rattle.parts.proofs.Answer.Laws as N′
 use Rattle.haltzurme.proofs.carry_out as carry
 use Rattle.haltzurme.proofs.carry_out.Symbol as carry-def
 use Rattle.haltzurme.proofs.carry_out.Symbol.{name as #haltzurme·carry-out}

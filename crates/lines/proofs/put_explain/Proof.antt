@@ -2,7 +2,7 @@
 -- Assumes nothing.
 use borrow.Author.Needs.{needs}
 use mathlib.Core.Path.{sym, _∙_}
-use Rattle.lines.proofs.Putting.{put-as}
+use Rattle.line_text.proofs.Puts.{put-as}
 use Rattle.lines.proofs.Parts.{explainLine-reason, explainLine-none}
 use Rattle.lines.proofs.put_explain.Statement.{statement}
 use Rattle.lines.proofs.put_explain.Tie as tie

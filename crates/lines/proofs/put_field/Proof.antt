@@ -1,7 +1,7 @@
 -- `lines::put_field` meets its contract, by the cases of the field: a record adds nothing, a question and the end their lines.
 -- Assumes nothing.
 use borrow.Author.Needs.{needs}
-use Rattle.lines.proofs.Putting.{put-as, put-nothing}
+use Rattle.line_text.proofs.Puts.{put-as, put-nothing}
 use Rattle.lines.proofs.put_field.Statement.{statement}
 use Rattle.lines.proofs.put_field.Tie as tie
 

@@ -12,9 +12,10 @@ use borrow.Rule.Slice.PartAt.{part-to-end}
 use Rattle.job.specs.Reading.{fieldAt, itemsIn}
 use Rattle.job.specs.Answer.{said, spanOfField}
 use Rattle.job.proofs.Standing.{accepted-stands}
-use Rattle.lines.proofs.Putting.{put-place, put-length, half-none, half-as}
+use Rattle.line_text.proofs.Puts.{put-place, put-length, half-none, half-as}
 use Rattle.lines.specs.Lines.{linesOf}
-use Rattle.lines.specs.Told.{Put, textAt, widthAt}
+use Rattle.line_text.specs.Put.{Put}
+use Rattle.lines.specs.Told.{textAt, widthAt}
 use Rattle.lines.proofs.Walking.{Walked, underway, walk-on, walk-falls, walk-done, span-small}
 use Rattle.lines.proofs.put_items.Statement.{statement}
 use Rattle.lines.proofs.put_items.Tie as tie

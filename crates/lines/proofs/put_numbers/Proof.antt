@@ -9,9 +9,10 @@ use native.Mathlib.Omega.{arith}
 use denote.Ref.{now}
 use lib.Seq.{slice}
 use Rattle.job.specs.Reading.{numberAt}
-use Rattle.lines.specs.Lines.{parted, numbersIn}
-use Rattle.lines.specs.Told.{Half}
-use Rattle.lines.proofs.Putting.{put-length, put-as, half-none, half-more, half-done, half-as}
+use Rattle.line_text.specs.Line.{parted}
+use Rattle.lines.specs.Lines.{numbersIn}
+use Rattle.line_text.specs.Put.{Half}
+use Rattle.line_text.proofs.Puts.{put-length, put-as, half-none, half-more, half-done, half-as}
 use Rattle.lines.proofs.Parts.{numbers-next, numbers-none}
 use Rattle.lines.proofs.put_numbers.Statement.{statement}
 use Rattle.lines.proofs.put_numbers.Tie as tie

@@ -7,9 +7,11 @@ use Prim.Native.Nat.{ℕ, _-_, _/_}
 use lib.ListN.{length}
 use denote.Ref.{now}
 use lib.Seq.{slice}
-use Rattle.lines.specs.Lines.{parted, numbersIn, bodyOf}
-use Rattle.lines.proofs.Putting.{put-as}
-use Rattle.lines.proofs.Parts.{put-more, put-ended, body-slice, length-body}
+use Rattle.line_text.specs.Line.{parted}
+use Rattle.lines.specs.Lines.{numbersIn, bodyOf}
+use Rattle.line_text.proofs.Puts.{put-as}
+use Rattle.line_text.proofs.Parted.{put-more, put-ended}
+use Rattle.lines.proofs.Parts.{body-slice, length-body}
 use Rattle.lines.proofs.put_reason.Statement.{statement}
 use Rattle.lines.proofs.put_reason.Tie as tie
 

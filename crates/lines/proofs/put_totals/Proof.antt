@@ -6,8 +6,9 @@ use mathlib.Core.List.{List, [], _∷_}
 use Prim.Native.Nat.{ℕ}
 use denote.Ref.{now}
 use Rattle.job.specs.Reading.{numberAt}
-use Rattle.lines.specs.Lines.{line, totalsLine}
-use Rattle.lines.proofs.Putting.{put-as}
+use Rattle.line_text.specs.Line.{line}
+use Rattle.lines.specs.Lines.{totalsLine}
+use Rattle.line_text.proofs.Puts.{put-as}
 use Rattle.lines.proofs.put_totals.Statement.{statement}
 use Rattle.lines.proofs.put_totals.Tie as tie
 

@@ -5,9 +5,9 @@ use mathlib.Core.Path.{sym, ap, _∙_}
 use Prim.Native.Nat.{ℕ}
 use denote.Ref.{now}
 use Rattle.lines.proofs.tell_report.Reads as reads
-use Rattle.job.specs.Answer.{told}
+use Rattle.job_read.specs.Summary.{told}
 use Rattle.lines.specs.Lines.{refusalLine}
-use Rattle.job.proofs.Standing.{told-accepted, told-refused}
+use Rattle.job_read.proofs.Telling.{told-accepted, told-refused}
 use Rattle.lines.proofs.Putting.{put-told, tells-as}
 use Rattle.lines.proofs.tell_report.Statement.{statement}
 use Rattle.lines.proofs.tell_report.Tie as tie

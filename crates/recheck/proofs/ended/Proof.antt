@@ -5,8 +5,8 @@ use native.Mathlib.Omega.{arith}
 use Prim.Native.Nat.{ℕ}
 use mathlib.Core.Path.{_≡_, refl}
 use denote.Ref.{now}
-use Rattle.recheck.specs.Right.{right, spare, wrong}
-use Rattle.recheck.proofs.Right.{pair-room}
+use Rattle.recheck.specs.Ended.{right, spare, wrong}
+use Rattle.field_test.proofs.Right.{pair-room}
 use Rattle.recheck.proofs.ended.Statement.{statement}
 use Rattle.recheck.proofs.ended.Tie as tie
 

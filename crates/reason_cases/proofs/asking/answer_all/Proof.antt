@@ -5,7 +5,7 @@ use Prim.Native.Nat.{_≤_, _-_}
 use native.Mathlib.Omega.{arith}
 use lib.ListN.{length}
 use mathlib.Core.Path.{_≡_, refl, _∙_}
-use Rattle.closure.specs.Past.{Past}
+use Rattle.history.specs.Past.{Past}
 use Rattle.reason_cases.proofs.asking.answer_all.Statement.{statement}
 use Rattle.reason_cases.proofs.asking.answer_all.Tie as tie
 

@@ -1,0 +1,189 @@
+/* The closure of the tool's crate `history`, loop for loop in C, to hold the tool's time to and to count what it does. It reads a job that is accepted (nothing is checked)
+   from standard input, closes its records as `close` does, with no questions answered, and writes one line: records, joins, applications met, the longest chain that was gone through.
+
+     closure [-r TIMES] < JOB    -r: close the job that many times
+
+   An application is filed by its arguments' labels; before a join relabels a class, the applications that have one of its tags for an argument are taken out and wait; what waits is met again, the
+   first of them each time, until none does. */
+#include <stdint.h>
+#include <stdio.h>
+#include <stdlib.h>
+#include <string.h>
+
+enum { TAGS = 1000, RECORDS = 4000, BUCKETS = 761, EQUATION = 65535, LEADS = 1000, JOB = 43008, WAITS = 4002 };
+
+static uint16_t left[RECORDS + 1], right[RECORDS + 1], result[RECORDS + 1];
+static uint16_t parent[TAGS], /* of a tag that leads its class: the largest tag of it */
+    age[TAGS], first[TAGS], second[TAGS], when[TAGS];
+static uint16_t label[TAGS], more[RECORDS], other[RECORDS], chain[RECORDS], buckets[BUCKETS], uses[TAGS], shares[TAGS];
+static unsigned char job[JOB + 1];
+static long met, longest;
+
+static uint32_t key(int r)
+{
+    return label[left[r]] * 65536u + label[right[r]];
+}
+
+/* Whether place j waits; otherwise chain[j] is one more than what its chain leads on to, and of one that waits it is WAITS more than the next that does. */
+static int waits(int j)
+{
+    return chain[j] == 0 || chain[j] >= WAITS;
+}
+
+/* The last link of a bucket's chain to a place above j, or 0; and what stands behind it. */
+static int above(int b, int j)
+{
+    int q = 0, p = buckets[b];
+    while (j + 1 < p) {
+        q = p;
+        p = chain[p - 1] - 1;
+    }
+    return q;
+}
+
+static int behind(int b, int q)
+{
+    return q == 0 ? buckets[b] : chain[q - 1] - 1;
+}
+
+static void lead(int b, int q, int p)
+{
+    if (q == 0)
+        buckets[b] = (uint16_t)p;
+    else
+        chain[q - 1] = (uint16_t)(p + 1);
+}
+
+static int touch(int j, int first)
+{
+    if (waits(j))
+        return first;
+    int b = (int)(key(j + 1) % BUCKETS), q = above(b, j), p = chain[j] - 1;
+    if (behind(b, q) == j + 1)
+        lead(b, q, p);
+    chain[j] = (uint16_t)(first + WAITS);
+    return j + 1;
+}
+
+static int touch_tag(int x, int first)
+{
+    for (int p = uses[x]; p != 0; p = more[p - 1])
+        first = touch(p - 1, first);
+    for (int p = shares[x]; p != 0; p = other[p - 1])
+        first = touch(p - 1, first);
+    return first;
+}
+
+static int join(int joins, int waiting, int one, int another, uint16_t a, uint16_t b, int places)
+{
+    uint16_t lo = a < b ? a : b, hi = a < b ? b : a, top = parent[hi];
+    for (int x = hi; x <= top; x++)
+        if (label[x] == hi)
+            waiting = touch_tag(x, waiting);
+    for (int x = hi; x <= top; x++)
+        label[x] = label[x] == hi ? lo : label[x];
+    parent[hi] = lo;
+    parent[lo] = parent[lo] < top ? top : parent[lo];
+    age[hi] = (uint16_t)joins;
+    first[joins] = (uint16_t)one;
+    second[joins] = (uint16_t)another;
+    when[joins] = (uint16_t)places;
+    return waiting;
+}
+
+/* The application at place j, the first that waits, is met; *waiting is the first then. The number of joins. */
+static int meet(int j, int joins, int places, int *waiting)
+{
+    uint32_t x = key(j + 1);
+    int b = (int)(x % BUCKETS), p = buckets[b];
+    long far = 0;
+    met++;
+    while (p != 0 && key(p) != x) {
+        p = chain[p - 1] - 1;
+        far++;
+    }
+    longest = far > longest ? far : longest;
+    if (p == 0) {
+        int q = above(b, j);
+        *waiting = chain[j] - WAITS;
+        chain[j] = (uint16_t)(behind(b, q) + 1);
+        lead(b, q, j + 1);
+        return joins;
+    }
+    uint16_t c = label[result[p]], d = label[result[j + 1]];
+    if (c == d) {
+        *waiting = chain[j] - WAITS;
+        chain[j] = 1;
+        return joins;
+    }
+    *waiting = join(joins, j + 1, p, j + 1, c, d, places);
+    return joins + 1;
+}
+
+static int settle(int joins, int places, int waiting)
+{
+    while (waiting != 0)
+        joins = meet(waiting - 1, joins, places, &waiting);
+    return joins;
+}
+
+static int admit(int i, int joins)
+{
+    int r = i + 1, waiting = r;
+    if (result[r] == EQUATION) {
+        uint16_t a = label[left[r]], b = label[right[r]];
+        chain[i] = 1;
+        if (a == b)
+            return joins;
+        waiting = join(joins, 0, r, 0, a, b, r);
+        joins++;
+    } else {
+        more[i] = uses[left[r]];
+        uses[left[r]] = (uint16_t)r;
+        other[i] = shares[right[r]];
+        shares[right[r]] = (uint16_t)r;
+        chain[i] = WAITS;
+    }
+    return settle(joins, r, waiting);
+}
+
+static int close_all(int records)
+{
+    int joins = 0;
+    for (int x = 0; x < TAGS; x++) {
+        age[x] = LEADS;
+        label[x] = (uint16_t)x;
+        parent[x] = (uint16_t)x;
+    }
+    memset(chain, 0, sizeof chain);
+    memset(buckets, 0, sizeof buckets);
+    memset(uses, 0, sizeof uses);
+    memset(shares, 0, sizeof shares);
+    met = longest = 0;
+    for (int i = 0; i < records; i++)
+        joins = admit(i, joins);
+    return joins;
+}
+
+static int two(const unsigned char *at)
+{
+    return at[0] * 256 + at[1];
+}
+
+int main(int argc, char **argv)
+{
+    long times = argc == 3 && strcmp(argv[1], "-r") == 0 ? strtol(argv[2], NULL, 10) : 1;
+    size_t length = fread(job, 1, sizeof job, stdin);
+    int records = 0, joins = 0;
+    for (const unsigned char *at = job; at + 3 <= job + length && at[0] != 0x7F; at += 3 + two(at + 1))
+        if (at[0] == 1 || at[0] == 2) {
+            records++;
+            left[records] = (uint16_t)two(at + 3);
+            right[records] = (uint16_t)two(at + 5);
+            result[records] = at[0] == 2 ? (uint16_t)two(at + 7) : EQUATION;
+        }
+    for (long i = 0; i < times; i++)
+        joins = close_all(records);
+    printf("records %d joins %d met %ld longest %ld\n", records, joins, met, longest);
+    return fflush(stdout) != 0;
+}

@@ -1,0 +1,69 @@
+-- `field_test::led` meets its contract: the leaders at the age of the records before the question are the leaders by those records, and
+-- the field with them is the only right one. Assumes nothing.
+use native.Mathlib.Omega.{arith}
+use Prim.Native.Nat.{ℕ, _≤_}
+use mathlib.Core.Path.{_≡_}
+use mathlib.Core.List.{List}
+use denote.Ref.{now}
+use Rattle.meaning.specs.Following.{UpTo, Leader}
+use Rattle.table.specs.Map.{recordsIn}
+use Rattle.history.specs.Past.{Past, ageAfter}
+use Rattle.following.specs.Meeting.{leaderAt}
+use Rattle.following.proofs.Kept.{past-forest}
+use Rattle.following.proofs.Moments.{leader-after, age-after-most}
+use Rattle.field_test.proofs.Right.{led-right, led-wrong, pair-room}
+use Rattle.field_test.proofs.led.Statement.{statement}
+use Rattle.field_test.proofs.led.Tie as tie
+
+age-after-requires : tie.Need-age-after-requires
+age-after-requires c κs = let start = c .before .before in (start .pre .0 .past .loaded .long, omega (arith, start .pre .0 .past .low, start .pre .0 .past .loaded .few))
+
+-- The age of a moment is that of a join, or one more.
+age-low : {N len n : ℕ} {w : List ℕ} → Past N len w n → (R a : ℕ) → a ≡ ageAfter w n R → a ≤ 1000
+age-low P R a e = omega (arith, age-after-most P R, P .history .room)
+
+leader-requires : tie.Need-leader-requires
+leader-requires c κs =
+    let start = c .before .before .before in
+    (past-forest (start .pre .0 .past), (age-low (start .pre .0 .past) (start .args .q .before) _ (c .age-after .ensures), omega (arith, start .pre .0 .from, start .pre .0 .past .loaded .few)))
+
+leader-requires-2 : tie.Need-leader-requires-2
+leader-requires-2 c κs =
+    let start = c .before .before .before .before in
+    (past-forest (start .pre .0 .past), (age-low (start .pre .0 .past) (start .args .q .before) _ (c .before .age-after .ensures), omega (arith, start .pre .0 .to, start .pre .0 .past .loaded .few)))
+
+is-led-requires : tie.Need-is-led-requires
+is-led-requires c κs = let start = c .before .before .before .before .before in start .pre .1
+
+-- What the table says at the age of a moment is the leader of that moment.
+leads : {N len n : ℕ} {w : List ℕ} → Past N len w n → (R x a l : ℕ) → R ≤ len → a ≡ ageAfter w n R → l ≡ leaderAt w a x → Leader (UpTo (recordsIn len w) R) x l
+leads {N} {len} {n} {w} P R x a l k e f = rw (f, e) (leader-after P R k x)
+
+add-t10 : tie.Need-add-t10
+add-t10 c =
+    let start = c .before .before .before .before .before .before .before in
+    omega (arith, pair-room (now (start .args .report)) (start .args .at) 131 _ _ (start .pre .1) (c .before .is-led .ensures .0 (c .if1 .taken)))
+
+returns : tie.Need-returns
+returns c =
+    let start = c .before .before .before .before .before .before .before in
+    let P = start .pre .0 .past in
+    led-right (leads P (start .args .q .before) _ _ _ (start .pre .0 .early) (c .before .before .before .before .age-after .ensures) (c .before .before .before .leader .ensures)) (leads P (start .args .q .before) _ _ _ (start .pre .0 .early) (c .before .before .before .before .age-after .ensures) (c .before .before .leader2 .ensures)) (now (start .args .report)) (start .args .at) (c .before .is-led .ensures .0 (c .if1 .taken))
+
+returns-2 : tie.Need-returns-2
+returns-2 c =
+    let start = c .before .before .before .before .before .before .before in
+    let P = start .pre .0 .past in
+    led-wrong (leads P (start .args .q .before) _ _ _ (start .pre .0 .early) (c .before .before .before .before .age-after .ensures) (c .before .before .before .leader .ensures)) (leads P (start .args .q .before) _ _ _ (start .pre .0 .early) (c .before .before .before .before .age-after .ensures) (c .before .before .leader2 .ensures)) (now (start .args .report)) (start .args .at) (λ h. let t = c .before .is-led .ensures .1 h in let f = c .if1 .left in let z : _≡_ {A = ℕ} 0 1 = cc (t, f) in omega arith)
+
+pub led-spec : {M : Type 1} → statement M
+led-spec =
+    tie.close
+    (tie.spec
+    age-after-requires
+    leader-requires
+    leader-requires-2
+    is-led-requires
+    add-t10
+    returns
+    returns-2)

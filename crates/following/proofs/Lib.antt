@@ -1,0 +1,5 @@
+pub mod Climb
+pub mod Kept
+pub mod Known
+pub mod Moments
+pub mod Crossing

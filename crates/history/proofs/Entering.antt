@@ -1,0 +1,181 @@
+-- A record comes in: an application waits, and its arguments' lists know it; an equation is joined unless its labels are equal.
+-- Assumes nothing.
+use Prim.Native.Nat.{ℕ, suc, _+_, _≤_, _<_}
+use native.Mathlib.Omega.{arith}
+use native.Mathlib.Numerals.{add-one}
+use mathlib.Core.Path.{_≡_, refl, sym, ap, _∙_, fun-ext}
+use mathlib.Core.Logic.{_≢_, inl, inr}
+use mathlib.Core.Bool.{Bool, true, false, cond, not}
+use mathlib.Core.List.{List}
+use lib.ListN.{length, set, length-set}
+use Rattle.meaning.specs.Joins.{put}
+use Rattle.meaning.proofs.Log.{put-miss}
+use Rattle.table.specs.Map.{leftOf, rightOf, labelOf, useOf, moreOf, stateOf, chainOf, waitOf, bucketOf, Within}
+use Rattle.table.proofs.Frame.{seen-in, seen-out, within-trans, within-wider, within-set}
+use Rattle.labels.proofs.Chain.{below}
+use Rattle.labels.proofs.Views.{lefts, rights}
+use Rattle.index.specs.State.{eqnAt, Filing, Used, Queued, Indexed}
+use Rattle.index.proofs.Filing.{more, uses-eq, uses-app}
+use Rattle.index.proofs.Waiting.{queue-more, queue-put-app}
+use Rattle.index.proofs.Views.{eqn-at, eqns, tags, keys-same, ress-same, wide, labels, keys, ress, uses, mores, store-frame, store-buckets, link-chains, link-waits, wait-chains, wait-waits}
+use Rattle.history.specs.State.{Standing, Level, Joining, Joined, Open, front, Between}
+use Rattle.history.proofs.Moments.{standing-same, standing-next, equate-due}
+use Rattle.history.proofs.Views.{level-same}
+
+-- The record of place i was put into the lists of one of its arguments, x.
+pub record Stored (s : Bool) (x i p : ℕ) (w w′ : List ℕ) : Type 0 where
+  pub frame : Within 17003 32768 w w′
+  pub label : labelOf w′ ≡ labelOf w
+  pub state : stateOf w′ ≡ stateOf w
+  pub bucket : bucketOf w′ ≡ bucketOf w
+  pub use′ : useOf s w′ ≡ put x (suc i) (useOf s w)
+  pub more′ : moreOf s w′ ≡ put i p (moreOf s w)
+  pub other-use : useOf (not s) w′ ≡ useOf (not s) w
+  pub other-more : moreOf (not s) w′ ≡ moreOf (not s) w
+
+module _ (w : List ℕ) (long : 32768 ≤ length w) (x i p : ℕ) (small : x < 1000) (low : i < 4000) where
+  pub stored : (s : Bool) (w′ : List ℕ) → w′ ≡ set (set w (cond s 22003 17003 + i) p) (cond s 31764 30764 + x) (i + 1) → Stored s x i p w w′
+  stored false w′ e = rw (e, add-one) (record {
+    frame = within-trans (within-set 17003 32768 w (17003 + i) p (omega arith) (omega arith)) (within-set 17003 32768 w₁ (30764 + x) (suc i) (omega arith) (omega arith));
+    label = seen-out 21003 1000 (λ x. x) w₁ (30764 + x) (suc i) (inr (omega arith)) ∙ seen-out 21003 1000 (λ x. x) w (17003 + i) p (inl (omega arith));
+    state = seen-out 26003 4000 (λ x. 0) w₁ (30764 + x) (suc i) (inr (omega arith)) ∙ seen-out 26003 4000 (λ x. 0) w (17003 + i) p (inl (omega arith));
+    bucket = seen-out 30003 761 (λ x. 0) w₁ (30764 + x) (suc i) (inr (omega arith)) ∙ seen-out 30003 761 (λ x. 0) w (17003 + i) p (inl (omega arith));
+    use′ = seen-in 30764 1000 (λ x. 0) w₁ x (suc i) small (omega (arith, length-set w (17003 + i) p)) ∙ ap (put x (suc i)) (seen-out 30764 1000 (λ x. 0) w (17003 + i) p (inl (omega arith)));
+    more′ = seen-out 17003 4000 (λ x. 0) w₁ (30764 + x) (suc i) (inr (omega arith)) ∙ seen-in 17003 4000 (λ x. 0) w i p low (omega arith);
+    other-use = seen-out 31764 1000 (λ x. 0) w₁ (30764 + x) (suc i) (inl (omega arith)) ∙ seen-out 31764 1000 (λ x. 0) w (17003 + i) p (inl (omega arith));
+    other-more = seen-out 22003 4000 (λ x. 0) w₁ (30764 + x) (suc i) (inr (omega arith)) ∙ seen-out 22003 4000 (λ x. 0) w (17003 + i) p (inl (omega arith));
+  })
+    where
+      w₁ : List ℕ
+      w₁ = set w (17003 + i) p
+  stored true w′ e = rw (e, add-one) (record {
+    frame = within-trans (within-set 17003 32768 w (22003 + i) p (omega arith) (omega arith)) (within-set 17003 32768 w₁ (31764 + x) (suc i) (omega arith) (omega arith));
+    label = seen-out 21003 1000 (λ x. x) w₁ (31764 + x) (suc i) (inr (omega arith)) ∙ seen-out 21003 1000 (λ x. x) w (22003 + i) p (inr (omega arith));
+    state = seen-out 26003 4000 (λ x. 0) w₁ (31764 + x) (suc i) (inr (omega arith)) ∙ seen-out 26003 4000 (λ x. 0) w (22003 + i) p (inl (omega arith));
+    bucket = seen-out 30003 761 (λ x. 0) w₁ (31764 + x) (suc i) (inr (omega arith)) ∙ seen-out 30003 761 (λ x. 0) w (22003 + i) p (inl (omega arith));
+    use′ = seen-in 31764 1000 (λ x. 0) w₁ x (suc i) small (omega (arith, length-set w (22003 + i) p)) ∙ ap (put x (suc i)) (seen-out 31764 1000 (λ x. 0) w (22003 + i) p (inl (omega arith)));
+    more′ = seen-out 22003 4000 (λ x. 0) w₁ (31764 + x) (suc i) (inr (omega arith)) ∙ seen-in 22003 4000 (λ x. 0) w i p low (omega arith);
+    other-use = seen-out 30764 1000 (λ x. 0) w₁ (31764 + x) (suc i) (inr (omega arith)) ∙ seen-out 30764 1000 (λ x. 0) w (22003 + i) p (inl (omega arith));
+    other-more = seen-out 17003 4000 (λ x. 0) w₁ (31764 + x) (suc i) (inr (omega arith)) ∙ seen-out 17003 4000 (λ x. 0) w (22003 + i) p (inr (omega arith));
+  })
+    where
+      w₁ : List ℕ
+      w₁ = set w (22003 + i) p
+
+  -- The same, of the tag and the link as they were found.
+  pub stored-as : (s : Bool) (w′ : List ℕ) (a q : ℕ) → a ≡ x → q ≡ p → w′ ≡ set (set w (cond s 22003 17003 + i) q) (cond s 31764 30764 + a) (i + 1) → Stored s x i p w w′
+  stored-as s w′ a q ea eq e = stored s w′ (rw (eq, ea) at e)
+
+-- An application comes in.
+module _ {N len i : ℕ} {w : List ℕ} {n : ℕ} (b : Between N len i w n) (low : i < len) (app : eqnAt w i ≡ false) where
+  most : i < 4000
+  most = omega (arith, low, b .standing .loaded .most)
+
+  pub entered : {w₁ w₂ w₃ : List ℕ} → Stored false (leftOf w (suc i)) i (useOf false w (leftOf w (suc i))) w w₁ → Stored true (rightOf w (suc i)) i (useOf true w₁ (rightOf w (suc i))) w₁ w₂ → w₃ ≡ set w₂ (26003 + i) (0 + 4002)
+      → Within 12003 32768 w w₃ × Open (front N len (suc i)) w₃ n (suc i)
+  entered {w₁} {w₂} {w₃} s t e = (frame, record { standing = standing; indexed = record { filing = filing; queue = queue; uses = used }; level = level })
+    where
+      long : 32768 ≤ length w₂
+      long = omega (arith, b .standing .loaded .long, s .frame .size, t .frame .size)
+
+      last : Within 26003 30764 w₂ w₃
+      last = store-frame w₂ w₃ i (0 + 4002) long most e
+
+      narrow : Within 17003 32768 w w₃
+      narrow = within-trans (within-trans (s .frame) (t .frame)) (within-wider 17003 32768 (omega arith) (omega arith) last)
+
+      frame : Within 12003 32768 w w₃
+      frame = within-wider 12003 32768 (omega arith) (omega arith) narrow
+
+      label : labelOf w₃ ≡ labelOf w
+      label = labels last ∙ t .label ∙ s .label
+
+      state : stateOf w₂ ≡ stateOf w
+      state = t .state ∙ s .state
+
+      chains : chainOf w₃ ≡ put i 0 (chainOf w)
+      chains = wait-chains w₂ w₃ i 0 long most e ∙ ap (put i 0) (fun-ext (λ r. rw state))
+
+      waits : waitOf w₃ ≡ put i 0 (waitOf w)
+      waits = wait-waits w₂ w₃ i 0 long most e ∙ ap (put i 0) (fun-ext (λ r. rw state))
+
+      buckets : bucketOf w₃ ≡ bucketOf w
+      buckets = store-buckets w₂ w₃ i (0 + 4002) long most e ∙ t .bucket ∙ s .bucket
+
+      standing : Standing (front N len (suc i)) w₃ n
+      standing = standing-same narrow label (standing-next b low)
+
+      filing : Filing (front N len (suc i)) w₃
+      filing = record { loaded = standing .loaded; reach = low; filed = rw (eqns frame, keys-same frame label, ress-same frame label, buckets, chains) (more (b .indexed .filing .filed) 0 (omega arith) (inl refl)) }
+
+      queue : Queued (front N len (suc i)) w₃ (suc i)
+      queue = rw (eqns frame, chains, waits) (queue-put-app 0 app (b .indexed .queue))
+
+      used : (c : Bool) → Used c (suc i) w₃
+      used false = rw (eqns frame, tags frame false, uses last false, mores last false, t .other-use, t .other-more, s .use′, s .more′) (uses-app (b .indexed .uses false) app)
+      used true = rw (eqns frame, tags frame true, uses last true, mores last true, t .use′, t .more′, s .other-use, s .other-more) (uses-app (b .indexed .uses true) app)
+
+      level : Level (suc i) w₃
+      level = level-same frame (λ x y q. rw label q) (below (λ j. eqnAt w j ≡ true → labelOf w (leftOf w (suc j)) ≡ labelOf w (rightOf w (suc j))) i (b .level) (λ q. let z : _≡_ {A = ℕ} 0 1 = cc app in absurd (omega arith)))
+
+-- An equation comes in.
+module _ {N len i : ℕ} {w : List ℕ} {n : ℕ} (b : Between N len i w n) (low : i < len) (eqn : eqnAt w i ≡ true) (w′ : List ℕ) (e : w′ ≡ set w (26003 + i) (0 + 1)) where
+  most-eqn : i < 4000
+  most-eqn = omega (arith, low, b .standing .loaded .most)
+
+  pub equate-chain : Within 26003 30764 w w′
+  equate-chain = store-frame w w′ i (0 + 1) (b .standing .loaded .long) most-eqn e
+
+  narrow : Within 17003 32768 w w′
+  narrow = within-wider 17003 32768 (omega arith) (omega arith) equate-chain
+
+  pub equate-standing : Standing (front N len (suc i)) w′ n
+  equate-standing = standing-same narrow (labels equate-chain) (standing-next b low)
+
+  chains : chainOf w′ ≡ put i 1 (chainOf w)
+  chains = link-chains w w′ i 0 (b .standing .loaded .long) most-eqn (omega arith) e
+
+  waits : (r : ℕ) → r ≢ i → waitOf w′ r ≡ waitOf w r
+  waits = link-waits w w′ i 0 (b .standing .loaded .long) most-eqn (omega arith) e
+
+  buckets : bucketOf w′ ≡ bucketOf w
+  buckets = store-buckets w w′ i (0 + 1) (b .standing .loaded .long) most-eqn e
+
+  same-eqn : eqnAt w′ i ≡ true
+  same-eqn = eqn-at (wide equate-chain) i ∙ eqn
+
+  same-chain : (r : ℕ) → r < i → (chainOf w′ r ≡ chainOf w r) × (waitOf w′ r ≡ waitOf w r)
+  same-chain r l = (ap (λ (g : ℕ → ℕ). g r) chains ∙ put-miss i 1 (chainOf w) r (omega arith), waits r (omega arith))
+
+  pub equate-indexed : Indexed (front N len (suc i)) w′ 0
+  equate-indexed = record {
+    filing = record { loaded = equate-standing .loaded; reach = low; filed = rw (eqns (wide equate-chain), keys equate-chain, ress equate-chain, buckets, chains) (more (b .indexed .filing .filed) 1 (omega arith) (inr eqn)) };
+    queue = rw (eqns (wide equate-chain)) (queue-more (chainOf w′) (waitOf w′) same-chain eqn (b .indexed .queue));
+    uses = λ c. rw (eqns (wide equate-chain), tags (wide equate-chain) c, uses equate-chain c, mores equate-chain c) (uses-eq (b .indexed .uses c) eqn);
+  }
+
+  level : Level i w′
+  level = level-same (wide equate-chain) (λ x y q. rw (labels equate-chain) q) (b .level)
+
+  pub equate-stay : labelOf w′ (leftOf w′ (suc i)) ≡ labelOf w′ (rightOf w′ (suc i)) → Open (front N len (suc i)) w′ n 0
+  equate-stay q = record {
+    standing = equate-standing;
+    indexed = equate-indexed;
+    level = below (λ j. eqnAt w′ j ≡ true → labelOf w′ (leftOf w′ (suc j)) ≡ labelOf w′ (rightOf w′ (suc j))) i level (λ _. q);
+  }
+
+  pub equate-joining : (x y : ℕ) → x ≡ labelOf w′ (leftOf w′ (suc i)) → y ≡ labelOf w′ (rightOf w′ (suc i)) → x ≢ y → Joining (front N len (suc i)) w′ n 0 (suc i) 0 x y
+  equate-joining x y = equate-due equate-standing equate-indexed low same-eqn x y
+
+  pub equate-joined : {x y first : ℕ} {w″ : List ℕ} → x ≡ labelOf w′ (leftOf w′ (suc i)) → y ≡ labelOf w′ (rightOf w′ (suc i)) → Joined (front N len (suc i)) w′ n x y w″ first
+      → Within 12003 32768 w w″ × Open (front N len (suc i)) w″ (n + 1) first × (n ≤ n + 1)
+  equate-joined {x} {y} {first} {w″} p q J = (
+    within-trans (wide equate-chain) (J .frame),
+    rw add-one (record {
+      standing = J .standing;
+      indexed = J .indexed;
+      level = below (λ j. eqnAt w″ j ≡ true → labelOf w″ (leftOf w″ (suc j)) ≡ labelOf w″ (rightOf w″ (suc j))) i (level-same (J .frame) (J .same) level)
+          (λ _. rw (lefts (J .frame), rights (J .frame)) (J .ends (leftOf w′ (suc i)) (rightOf w′ (suc i)) (sym p) (sym q)));
+    }),
+    omega arith,
+  )

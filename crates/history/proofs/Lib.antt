@@ -1,0 +1,9 @@
+pub mod Views
+pub mod Joining
+pub mod Logging
+pub mod Moments
+pub mod Tops
+pub mod Uniting
+pub mod Passing
+pub mod Meeting
+pub mod Entering

@@ -1,0 +1,351 @@
+-- Between two records the labels are closed under the records so far, so this moment is settled and can be kept; the next record only adds to the numbers.
+-- A record that is met, and whose labels differ, has a due join. The number of classes is N less the joins, so a record is idle exactly where it made no join.
+-- Assumes nothing.
+use Prim.Native.Nat.{ℕ, zero, suc, _+_, _-_, _*_, _≤_, _<_}
+use native.Mathlib.Omega.{arith}
+use native.Mathlib.Numerals.{add-one}
+use native.Mathlib.Decide.{ℕ-discrete, decLt}
+use mathlib.Core.Path.{_≡_, refl, sym, ap, _∙_, fun-ext}
+use mathlib.Core.Logic.{_≢_, _↔_, _⊎_, inl, inr}
+use mathlib.Core.Bool.{Bool, true, false}
+use mathlib.Core.List.{List, [], _∷_, _++_, List·Memᴰ, List·Memᴰ·not-nil, List·Memᴰ·eq-of-singleton, List·Memᴰ·cases-cons, Memᴰ·append-left}
+use lib.Dec.{leb}
+use lib.ListN.{length, take, drop, getD}
+use borrow.Author.Tests.{ne-eqb, le-leb}
+use Rattle.meaning.specs.Following.{Rec, eq, app, same, Those, UpTo, Only}
+use Rattle.meaning.specs.Joins.{cong, equation, applications, count}
+use Rattle.meaning.specs.Labels.{classes}
+use Rattle.meaning.specs.Forest.{root, History}
+use Rattle.meaning.specs.Totals.{Count, one, skip, Classes, Idle}
+use Rattle.meaning.proofs.Close.{more-of, Closed, closed-by}
+use Rattle.meaning.proofs.Forest.{root-stop, root-labels, history-start}
+use Rattle.meaning.proofs.Short.{some-class}
+use Rattle.meaning.proofs.Exact.{Settled, settled-classes, idle-iff}
+use Rattle.table.specs.Map.{leftOf, rightOf, resultOf, parentOf, ageOf, firstOf, secondOf, whenOf, labelOf, useOf, chainOf, seen, joinBy, joinAt, recAt, recordsIn, Loaded, Within}
+use Rattle.table.proofs.Frame.{seen-at, seen-past, seen-within, within-trans, within-wider, length-gather, gather-in, in-gather}
+use Rattle.history.specs.Past.{ageAfter, leaderAfter}
+use Rattle.labels.specs.Parts.{Fills, CountsUp, Fresh}
+use Rattle.labels.proofs.Rows.{at-rec, eq-parts, app-parts}
+use Rattle.labels.proofs.Views.{lefts, rights, results, loaded-same, records-same, lent-within, lent-at, seen-zero}
+use Rattle.labels.proofs.Rows.{split-key}
+use Rattle.labels.proofs.Views.{fresh-labels, fresh-total}
+use Rattle.index.specs.declared.Front.{Front}
+use Rattle.index.specs.State.{eqnAt, keyAt, resAt, foundIn, Indexed}
+use Rattle.index.proofs.Filing.{none, found-hit, all-known, uses-none}
+use Rattle.index.proofs.Waiting.{queue-none, queue-empty, queue-head}
+use Rattle.index.proofs.Views.{row-left, row-right}
+use Rattle.history.specs.Closing.{Closing}
+use Rattle.history.specs.State.{upTo, Logged, Standing, Joining, Open, Unifying, front, Between, Admitted, Begun, Unlinked}
+use Rattle.history.proofs.Views.{row-result, row-at}
+
+-- A change behind the log that keeps the labels keeps what stands.
+module _ {w w′ : List ℕ} (f : Within 17003 32768 w w′) (label : labelOf w′ ≡ labelOf w) where
+  frame : Within 12003 32768 w w′
+  frame = within-wider 12003 32768 (omega arith) (omega arith) f
+
+  parent : parentOf w′ ≡ parentOf w
+  parent = seen-within 12003 1000 (λ x. x) f (inl (omega arith))
+
+  age : ageOf w′ ≡ ageOf w
+  age = seen-within 13003 1000 (λ x. 1000) f (inl (omega arith))
+
+  first : firstOf w′ ≡ firstOf w
+  first = seen-within 14003 1000 (λ x. 0) f (inl (omega arith))
+
+  second : secondOf w′ ≡ secondOf w
+  second = seen-within 15003 1000 (λ x. 0) f (inl (omega arith))
+
+  when : whenOf w′ ≡ whenOf w
+  when = seen-within 16003 1000 (λ x. 0) f (inl (omega arith))
+
+  joins : joinAt w′ ≡ joinAt w
+  joins = fun-ext (λ a. rw (first, second, lefts frame, rights frame, results frame))
+
+  pub standing-same : {t : Front} {n : ℕ} → Standing t w n → Standing t w′ n
+  standing-same s = record {
+    loaded = loaded-same frame (s .loaded);
+    reach = s .reach;
+    labels = rw label (s .labels);
+    sound = rw (lefts frame, rights frame, results frame, label) (s .sound);
+    total = rw label (s .total);
+    own = rw label (s .own);
+    tops = record { above = rw (label, parent) (s .tops .above); below = rw (label, parent) (s .tops .below) };
+    log = rw (joins, lefts frame, rights frame, results frame, label, parent, age, when) (s .log);
+  }
+
+pub standing-frame : {t : Front} {w w′ : List ℕ} {n : ℕ} → Within 26003 32768 w w′ → Standing t w n → Standing t w′ n
+standing-frame f = standing-same (within-wider 17003 32768 (omega arith) (omega arith) f) (seen-within 21003 1000 (λ x. x) f (inl (omega arith)))
+
+-- Where none waits, the labels are closed under the records that are in.
+open-closed : {t : Front} {w : List ℕ} {n : ℕ} → Open t w n 0 → Closed (Only (recordsIn (t .len) w) (upTo (t .places))) (labelOf w)
+open-closed {t} {w} o = closed-by (labelOf w) own (λ a b i. equal a b i) (λ a b c i. agree a b c i)
+  where
+    own : ℕ → ℕ → ℕ
+    own x y = resAt w (foundIn w (x * 65536 + y) - 1)
+
+    equal : (a b : ℕ) → Only (recordsIn (t .len) w) (upTo (t .places)) (eq a b) → labelOf w a ≡ labelOf w b
+    equal a b i =
+        let g = in-gather suc (t .places) (i .0) (i .1) in
+        let p = eq-parts (eqnAt w (g .0)) (leftOf w (suc (g .0))) (rightOf w (suc (g .0))) (resultOf w (suc (g .0))) a b (rw (g .2) (at-rec (t .len) w (i .0) (eq a b) (i .2))) in
+        rw (← p .1, ← p .2) (o .level (g .0) (g .1) (p .0))
+
+    agree : (a b c : ℕ) → Only (recordsIn (t .len) w) (upTo (t .places)) (app a b c) → labelOf w c ≡ own (labelOf w a) (labelOf w b)
+    agree a b c i =
+        let g = in-gather suc (t .places) (i .0) (i .1) in
+        let p = app-parts (eqnAt w (g .0)) (leftOf w (suc (g .0))) (rightOf w (suc (g .0))) (resultOf w (suc (g .0))) a b c (rw (g .2) (at-rec (t .len) w (i .0) (app a b c) (i .2))) in
+        rw (← p .0 .1, ← p .1 .0, ← p .1 .1) (sym (all-known (o .indexed .filing .filed) (queue-empty (o .indexed .queue)) (g .0) (g .1) (p .0 .0) .1))
+
+count-all : (p : ℕ → Bool) (n : ℕ) → ((a : ℕ) → a < n → p a ≡ true) → count p n ≡ n
+count-all p zero h = refl
+count-all p (suc n) h = rw (h n (omega arith), count-all p n (λ a l. h a (omega arith)))
+
+closed-less : {S S′ : Rec → Type 0} {f : ℕ → ℕ} → ((r : Rec) → S′ r → S r) → Closed S f → Closed S′ f
+closed-less h c = record { equal = λ i. c .equal (h _ i); apart = λ i j. c .apart (h _ i) (h _ j) }
+
+module _ {N len i : ℕ} {w : List ℕ} {n : ℕ} (b : Between N len i w n) where
+  log : Logged (recordsIn len w) (upTo i) i (labelOf w) (parentOf w) (ageOf w) (joinAt w) (whenOf w) n
+  log = b .standing .log
+
+  roots : root (parentOf w) (ageOf w) n ≡ labelOf w
+  roots = fun-ext (log .roots)
+
+  age-now : ageAfter w n i ≡ n
+  age-now = count-all (λ a. leb (whenOf w a) i) n (λ a l. le-leb (whenOf w a) i (log .made a l .1))
+
+  number-in : (r : Rec) → Those (recordsIn len w) (λ m. m ≤ i) r → Only (recordsIn len w) (upTo i) r
+  number-in r h =
+      let q : suc (h .2 .place) ≡ h .0 = sym (h .2 .number) in
+      let m = gather-in suc i (h .2 .place) (omega (arith, h .1)) in
+      (h .0, rw q at m, h .2)
+
+  in-number : (k : ℕ) → List·Memᴰ k (upTo i) → k ≤ i
+  in-number k m = let g = in-gather suc i k m in omega (arith, g .1, g .2)
+
+  settled : (a : ℕ) → a ≡ n → Settled (recordsIn len w) (λ m. m ≤ i) (joinAt w) a (root (parentOf w) (ageOf w) a)
+  settled a e = rw e (record {
+    labels = root-labels (parentOf w) (ageOf w) 1000 n (log .history .links) n (omega arith) (log .history .room);
+    agree = log .history .then n (omega arith);
+    sound = log .justified;
+    within = λ k m. in-number k (log .within k m);
+    closed = rw roots (closed-less number-in (open-closed b));
+  })
+
+  pub moment-now : Settled (recordsIn len w) (λ m. m ≤ i) (joinAt w) (ageAfter w n i) (leaderAfter w n i)
+  moment-now = settled (ageAfter w n i) age-now
+
+  leader-now : leaderAfter w n i ≡ labelOf w
+  leader-now = ap (root (parentOf w) (ageOf w)) age-now ∙ roots
+
+  pub classes-now : Classes N (UpTo (recordsIn len w) i) (N - n)
+  classes-now =
+      let e : classes (labelOf w) N ≡ N - n = omega (arith, b .standing .total) in
+      rw (← e, ← leader-now) (settled-classes moment-now N)
+
+  -- The moments up to this one.
+  pub moments-now : (k : ℕ) → k ≤ i → Settled (recordsIn len w) (λ m. m ≤ k) (joinAt w) (ageAfter w n k) (leaderAfter w n k)
+  moments-now k l = elim (ℕ-discrete k i) [ yes q ↦ rw q moment-now | no q ↦ log .moments k (omega arith) ]
+
+  pub low-now : n < N
+  low-now = omega (arith, b .standing .total, some-class N (labelOf w) (b .standing .labels) (b .standing .loaded .some))
+
+-- The next record is in.
+pub standing-next : {N len i : ℕ} {w : List ℕ} {n : ℕ} → Between N len i w n → i < len → Standing (front N len (suc i)) w n
+standing-next {N} {len} {i} {w} {n} b low = record {
+  loaded = b .standing .loaded;
+  reach = omega arith;
+  labels = b .standing .labels;
+  sound = λ x. more-of (λ k m. Memᴰ·append-left (suc i ∷ []) m) (b .standing .sound x);
+  total = b .standing .total;
+  own = b .standing .own;
+  tops = b .standing .tops;
+  log = let g = b .standing .log in record {
+    history = g .history;
+    justified = g .justified;
+    within = λ k m. Memᴰ·append-left (suc i ∷ []) (g .within k m);
+    roots = g .roots;
+    made = λ a l. (g .made a l .0, omega (arith, g .made a l .1));
+    order = g .order;
+    moments = λ k l. moments-now b k (omega arith);
+  };
+}
+
+-- An equation whose labels differ.
+pub equate-due : {N len i : ℕ} {w : List ℕ} {n first : ℕ} → Standing (front N len (suc i)) w n → Indexed (front N len (suc i)) w first → i < len → eqnAt w i ≡ true
+    → (a b : ℕ) → a ≡ labelOf w (leftOf w (suc i)) → b ≡ labelOf w (rightOf w (suc i)) → a ≢ b → Joining (front N len (suc i)) w n first (suc i) 0 a b
+equate-due {i = i} s x l q a b ea eb d = record {
+  standing = s;
+  indexed = x;
+  some = omega arith;
+  due = record {
+    tags = (row-left (s .loaded) i l, row-right (s .loaded) i l);
+    grounds = equation (rw q at (row-at (s .loaded) i l));
+    within = λ m h. rw (List·Memᴰ·eq-of-singleton h) (gather-in suc (suc i) i (omega arith));
+  };
+  apart = d;
+  ends = inl (sym ea, sym eb);
+}
+
+-- The labels of two applications with one key.
+module _ {t : Front} {w : List ℕ} {n : ℕ} (s : Standing t w n) where
+  right-fits : (j : ℕ) → j < t .places → labelOf w (rightOf w (suc j)) < 65536
+  right-fits j l = omega (arith, s .labels .low (rightOf w (suc j)), row-right (s .loaded) j (omega (arith, s .reach)), s .loaded .few)
+
+  pub key-args : (j r : ℕ) → j < t .places → r < t .places → keyAt w r ≡ keyAt w j
+      → (labelOf w (leftOf w (suc r)) ≡ labelOf w (leftOf w (suc j))) × (labelOf w (rightOf w (suc r)) ≡ labelOf w (rightOf w (suc j)))
+  key-args j r l k e = split-key (labelOf w (leftOf w (suc r))) (labelOf w (rightOf w (suc r))) (labelOf w (leftOf w (suc j))) (labelOf w (rightOf w (suc j))) (right-fits r k) (right-fits j l) e
+
+-- An application whose result's label differs from that of the one that is found.
+module _ {t : Front} {w : List ℕ} {p j n : ℕ} (u : Unifying t w p j n) where
+  -- It is the first that waits.
+  pub unify-head : (j < t .places) × (eqnAt w j ≡ false) × (chainOf w j ≡ 0)
+  unify-head = queue-head j (u .state .indexed .queue)
+
+  hit : (keyAt w (p - 1) ≡ keyAt w j) × (p ≤ t .places) × (eqnAt w (p - 1) ≡ false) × (0 < chainOf w (p - 1))
+  hit = rw (u .found) (found-hit (u .state .indexed .filing .filed) (keyAt w j) (rw (u .found) at (u .hit)))
+
+  pub unify-low : p - 1 < t .places
+  unify-low = omega (arith, hit .1, u .hit)
+
+  pub unify-app : eqnAt w (p - 1) ≡ false
+  unify-app = hit .2
+
+  from : suc (p - 1) ≡ p
+  from = omega (arith, u .hit)
+
+  abbrev s : Standing t w n
+  s = u .state .standing
+
+  args : (labelOf w (leftOf w (suc (p - 1))) ≡ labelOf w (leftOf w (suc j))) × (labelOf w (rightOf w (suc (p - 1))) ≡ labelOf w (rightOf w (suc j)))
+  args = key-args s j (p - 1) (unify-head .0) unify-low (hit .0)
+
+  low-len : (r : ℕ) → r < t .places → r < t .len
+  low-len r l = omega (arith, s .reach)
+
+  pair : joinBy w (suc (p - 1)) (suc j) ≡ record { u = resultOf w (suc (p - 1)); v = resultOf w (suc j); why = cong (suc (p - 1)) (suc j) }
+  pair = rw (ne-eqb (suc j) 0 (omega arith))
+
+  due : (a b : ℕ) → a ≡ labelOf w (resultOf w (suc (p - 1))) → b ≡ labelOf w (resultOf w (suc j)) → a ≢ b → Joining t w n (suc j) (suc (p - 1)) (suc j) a b
+  due a b ea eb d = record {
+    standing = s;
+    indexed = u .state .indexed;
+    some = omega (arith, unify-head .0);
+    due = rw pair (record {
+      tags = (row-result (s .loaded) (p - 1) (low-len (p - 1) unify-low) unify-app, row-result (s .loaded) j (low-len j (unify-head .0)) (unify-head .1));
+      grounds = applications (rw unify-app at (row-at (s .loaded) (p - 1) (low-len (p - 1) unify-low))) (rw (unify-head .1) at (row-at (s .loaded) j (low-len j (unify-head .0)))) (args .0) (args .1);
+      within = λ m h. elim (List·Memᴰ·cases-cons h) [ inl q ↦ rw q (gather-in suc (t .places) (p - 1) unify-low) | inr r ↦ rw (List·Memᴰ·eq-of-singleton r) (gather-in suc (t .places) j (unify-head .0)) ];
+    });
+    apart = d;
+    ends = rw pair (inl (sym ea, sym eb));
+  }
+
+  pub unify-due : (a b : ℕ) → a ≡ labelOf w (resultOf w p) → b ≡ labelOf w (resultOf w (suc j)) → a ≢ b → Joining t w n (suc j) p (suc j) a b
+  unify-due a b ea eb d = rw from at (due a b (rw from ea) eb d)
+
+-- The ages are lent, and come back filled.
+pub unlinked : (w w′ v : List ℕ) → 32768 ≤ length w → length v ≡ length (take 1000 (drop 13003 w)) → w′ ≡ take 13003 w ++ (v ++ drop 1000 (drop 13003 w)) → Fills v 1000 → Unlinked w w′
+unlinked w w′ v long s e h = record { frame = lent-within 13003 1000 w w′ v (omega arith) s e; ages = λ x. go x (decLt x 1000) }
+  where
+    go : (x : ℕ) → Dec (x < 1000) → ageOf w′ x ≡ 1000
+    go x (yes l) = seen-at 13003 1000 (λ x. 1000) w′ x l ∙ lent-at 13003 1000 w w′ v (omega arith) s e (λ i. 1000) h x l
+    go x (no l) = seen-past 13003 1000 (λ x. 1000) w′ x (omega arith)
+
+-- Before the first record: the part from the chains on is lent, and comes back as noughts.
+pub begun : {w a′ a b d : List ℕ} (v u′ : List ℕ) → 32768 ≤ length w → Unlinked w a′ → length u′ ≡ length (take 1000 (drop 12003 a′)) → a ≡ take 12003 a′ ++ (u′ ++ drop 1000 (drop 12003 a′)) → CountsUp u′ → Fresh a b → length v ≡ length (take 6765 (drop 26003 b)) → d ≡ take 26003 b ++ (v ++ drop 6765 (drop 26003 b)) → Fills v 0 → Begun w d
+begun {w} {a′} {a} {b} {d} v u′ l u su eu hu f s e h = record {
+  frame = within-trans (within-wider 12003 32768 (omega arith) (omega arith) (within-trans (within-wider 12003 14003 (omega arith) (omega arith) (u .frame)) (within-wider 12003 14003 (omega arith) (omega arith) first))) (within-trans (within-wider 12003 32768 (omega arith) (omega arith) (f .frame)) (within-wider 12003 32768 (omega arith) (omega arith) part));
+  ages = λ x. rw (seen-within 13003 1000 (λ x. 1000) part (inl (omega arith)), seen-within 13003 1000 (λ x. 1000) (f .frame) (inl (omega arith)), seen-within 13003 1000 (λ x. 1000) first (inr (omega arith))) (u .ages x);
+  tops = λ x. rw (seen-within 12003 1000 (λ x. x) part (inl (omega arith)), seen-within 12003 1000 (λ x. x) (f .frame) (inl (omega arith))) (tops x (decLt x 1000));
+  labels = λ x. rw (seen-within 21003 1000 (λ x. x) part (inl (omega arith))) (f .labels x);
+  chains = λ r. rw (nought 26003 4000 (omega arith) (omega arith) r);
+  buckets = nought 30003 761 (omega arith) (omega arith);
+  uses = uses;
+}
+  where
+    first : Within 12003 13003 a′ a
+    first = lent-within 12003 1000 a′ a u′ (omega (arith, l, u .frame .size)) su eu
+
+    tops : (x : ℕ) → Dec (x < 1000) → parentOf a x ≡ x
+    tops x (yes k) = seen-at 12003 1000 (λ x. x) a x k ∙ lent-at 12003 1000 a′ a u′ (omega (arith, l, u .frame .size)) su eu (λ i. i) hu x k
+    tops x (no k) = seen-past 12003 1000 (λ x. x) a x (omega arith)
+
+    long : 32768 ≤ length b
+    long = omega (arith, u .frame .size, first .size, f .frame .size)
+
+    part : Within 26003 32768 b d
+    part = lent-within 26003 6765 b d v (omega (arith, long)) s e
+
+    at-zero : (x : ℕ) → x < 6765 → getD d (26003 + x) 0 ≡ 0
+    at-zero = lent-at 26003 6765 b d v (omega (arith, long)) s e (λ i. 0) h
+
+    nought : (at n : ℕ) → 26003 ≤ at → at + n ≤ 32768 → (x : ℕ) → seen at n (λ x. 0) d x ≡ 0
+    nought at n k m x = seen-zero at n d x (λ y l. let z : at + y ≡ 26003 + (at - 26003 + y) = omega arith in rw z (at-zero (at - 26003 + y) (omega arith)))
+
+    uses : (second : Bool) (x : ℕ) → useOf second d x ≡ 0
+    uses true = nought 31764 1000 (omega arith) (omega arith)
+    uses false = nought 30764 1000 (omega arith) (omega arith)
+
+pub between-start : {N len : ℕ} {w w′ : List ℕ} → Loaded N len w → Begun w w′ → Between N len 0 w′ 0
+between-start {N} {len} {w} {w′} h b = record {
+  standing = record {
+    loaded = loaded-same (b .frame) h;
+    reach = omega arith;
+    labels = fresh-labels (fun-ext (b .labels));
+    sound = λ x. rw (b .labels x) same;
+    total = fresh-total N (fun-ext (b .labels));
+    own = λ x l. b .labels x;
+    tops = record { above = λ x l. rw (b .labels x, b .tops x) (omega arith); below = λ x l e. rw (b .tops x) l };
+    log = record {
+      history = history;
+      justified = λ a l. absurd (omega arith);
+      within = λ k i. absurd (List·Memᴰ·not-nil i);
+      roots = λ x. root-stop (parentOf w′) (ageOf w′) 1000 0 (history .links) 0 (omega arith) (omega arith) x (omega arith) ∙ sym (b .labels x);
+      made = λ a l. absurd (omega arith);
+      order = λ a c l k. absurd (omega arith);
+      moments = λ k l. absurd (omega arith);
+    };
+  };
+  indexed = record {
+    filing = record { loaded = loaded-same (b .frame) h; reach = omega arith; filed = none (b .buckets) (b .chains) };
+    queue = queue-none (λ j l. absurd (omega arith));
+    uses = λ second. uses-none (b .uses second);
+  };
+  level = λ j l. absurd (omega arith);
+}
+  where
+    history : History (joinAt w′) 0 (parentOf w′) (ageOf w′) 1000
+    history = history-start (joinAt w′) (parentOf w′) (ageOf w′) 1000 (λ x. omega (arith, b .ages x))
+
+-- The idle records so far.
+module _ {N len i : ℕ} {w w′ : List ℕ} {n n′ idle : ℕ} (b : Between N len i w n) (a : Admitted N len i w n w′ n′) (c : Count (Idle N (recordsIn len w)) i idle) where
+  iff : Idle N (recordsIn len w′) i ↔ (N - n ≡ N - n′)
+  iff = idle-iff (rw (records-same (a .frame) len) (classes-now b)) (classes-now (a .between))
+
+  kept-count : Count (Idle N (recordsIn len w′)) i idle
+  kept-count = rw (records-same (a .frame) len) c
+
+  idle-more : n′ ≡ n → Count (Idle N (recordsIn len w′)) (suc i) (suc idle)
+  idle-more e = one (iff .1 (omega arith)) kept-count
+
+  idle-same : n′ ≢ n → Count (Idle N (recordsIn len w′)) (suc i) idle
+  idle-same d = skip (λ h. d (let q = iff .0 h in omega (arith, low-now b, low-now (a .between)))) kept-count
+
+  pub idle-turn : (idle′ : ℕ) → ((n′ ≡ n) × (idle′ ≡ idle + 1)) ⊎ ((n′ ≢ n) × (idle′ ≡ idle)) → Count (Idle N (recordsIn len w′)) (i + 1) idle′
+  idle-turn idle′ (inl h) = rw (h .1, add-one, add-one) (idle-more (h .0))
+  idle-turn idle′ (inr h) = rw (h .1, add-one) (idle-same (h .0))
+
+-- All are in.
+pub close-done : {N len : ℕ} {w w′ : List ℕ} {n idle : ℕ} → Within 12003 32768 w w′ → Between N len len w′ n → Count (Idle N (recordsIn len w′)) len idle → Closing N len w w′ n idle
+close-done {N} {len} {w} {w′} f b c = let g = b .standing .log in record {
+  kept = f;
+  past = record {
+    loaded = b .standing .loaded;
+    low = low-now b;
+    history = g .history;
+    justified = g .justified;
+    made = g .made;
+    order = g .order;
+    moments = moments-now b;
+  };
+  classes = classes-now b;
+  idles = rw (length-gather (λ k. recAt w′ (suc k)) len) c;
+}

@@ -1,0 +1,78 @@
+-- `admit` meets its contract. The record comes in by its kind, and what waits then is met.
+-- Assumes nothing.
+use borrow.Author.Needs.{needs}
+use mathlib.Core.Path.{_≡_, sym, _∙_}
+use native.Mathlib.Omega.{arith}
+use native.Mathlib.Numerals.{add-one}
+use denote.Ref.{now}
+use Prim.Native.Nat.{_<_}
+use Rattle.index.specs.State.{eqnAt}
+use Rattle.history.proofs.admit.Statement.{statement}
+use Rattle.history.proofs.admit.Tie as tie
+use Rattle.history.proofs.Passing.{admitted}
+
+low : (s : tie.Start) → s .args .i < 4000
+low s = omega (arith, s .pre .1, s .pre .0 .standing .loaded .most)
+
+add-settle : tie.Need-add-settle
+add-settle c = record { fits = omega (arith, low (c .before)) }
+
+number-requires : tie.Need-number-requires
+number-requires c κs = low (c .before .before)
+
+is-equation-requires : tie.Need-is-equation-requires
+is-equation-requires c κs = let s = c .before .before .before in (s .pre .0 .standing .loaded .long, omega (arith, c .number .ensures, low s))
+
+-- Whether the record is an equation.
+kind : (a : tie.After-is-equation) → eqnAt (now (a .before .before .before .before .args .work)) (a .before .before .before .before .args .i) ≡ a .is-equation .result
+kind a = rw (← a .before .number .ensures) (sym (a .is-equation .ensures))
+
+equate-requires : tie.Need-equate-requires
+equate-requires c κs = let a = c .before .before in let s = a .before .before .before .before in (s .pre .0, s .pre .1, kind a ∙ c .before .if1 .taken)
+
+settle-requires : tie.Need-settle-requires
+settle-requires c κs = rw add-one (c .before .before .before .equate .ensures .1)
+
+same-length : tie.Need-same-length
+same-length c = search needs
+
+returns : tie.Need-returns
+returns c =
+    let f = c .before .before .settle .ensures in
+    let e = c .before .before .before .before .before .before .equate .ensures in
+    admitted (e .0) (e .2) (f .0) (f .1) (f .2)
+
+enter-requires : tie.Need-enter-requires
+enter-requires c κs = let a = c .before .before in let s = a .before .before .before .before in (s .pre .0, s .pre .1, kind a ∙ c .before .if1 .left)
+
+add-settle-2 : tie.Need-add-settle-2
+add-settle-2 c = record { fits = omega (arith, low (c .before .before .before .before .before .before .before .before .before .before)) }
+
+settle-requires-2 : tie.Need-settle-requires-2
+settle-requires-2 c κs = rw add-one (c .before .before .before .enter .ensures .1)
+
+same-length-2 : tie.Need-same-length-2
+same-length-2 c = search needs
+
+returns-2 : tie.Need-returns-2
+returns-2 c =
+    let f = c .before .before .settle2 .ensures in
+    let e = c .before .before .before .before .before .before .enter .ensures in
+    admitted (e .0) (omega arith) (f .0) (f .1) (f .2)
+
+pub admit-spec : {M : Type 1} → statement M
+admit-spec =
+    tie.close
+    (tie.spec
+    add-settle
+    number-requires
+    is-equation-requires
+    equate-requires
+    settle-requires
+    same-length
+    returns
+    enter-requires
+    add-settle-2
+    settle-requires-2
+    same-length-2
+    returns-2)

@@ -1,0 +1,5 @@
+pub mod Filing
+pub mod Slipping
+pub mod Waiting
+pub mod Views
+pub mod Touching

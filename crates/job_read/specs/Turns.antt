@@ -1,0 +1,35 @@
+-- The loop of `read_job`: what has been seen, what one more field does to it, and what that has to do with the whole. This is
+-- machinery of the proof: the promise of `read_job` names none of it.
+-- Assumes nothing.
+use Prim.Native.Nat.{ℕ, suc, _+_, _*_, _≤_, _<_}
+use mathlib.Core.Path.{_≡_}
+use mathlib.Core.List.{List}
+use lib.ListN.{length}
+use Rattle.job.specs.Items.{Reading, refused, accepted, recordsOf, questionsOf, neededRoom}
+use Rattle.job.specs.Reading.{readFrom}
+use Rattle.job_read.specs.declared.Answer.{Answer}
+use Rattle.job_read.specs.declared.Seen.{Seen}
+use Rattle.job_read.specs.declared.Turn.{Turn}
+use Rattle.job_read.specs.declared.Turn.the-variants.{On, Done}
+use Rattle.job_read.specs.Summary.{Summary, refusal, acceptance, told}
+
+-- The summary of what was seen and of what is still to be read.
+abbrev pub tally : ℕ → ℕ → ℕ → Reading → Summary
+tally R Q room (refused n p) = refusal n p
+tally R Q room (accepted N is) = acceptance N (R + length (recordsOf is)) (Q + questionsOf is) (room + neededRoom N R is)
+
+abbrev pub tallied : ℕ → List ℕ → Seen → Summary
+tallied fuel job s = tally (s .records) (s .questions) (s .room) (readFrom fuel job (s .size) (s .records) (s .questions) (s .at))
+
+-- What has been seen stands within the job and within the limits.
+pub record Going (job : List ℕ) (s : Seen) : Type 0 where
+  pub within : s .at ≤ length job
+  pub size : s .size ≤ 1000
+  pub records : s .records ≤ 4000
+  pub questions : s .questions ≤ 1000
+  pub room : s .room ≤ 4000 * s .questions
+
+-- One field more: reading goes on behind it with the same outcome, or that outcome is known.
+pub data Turned (job : List ℕ) (s : Seen) : Turn → Type 0 where
+  on : {t : Seen} → s .at < t .at → Going job t → ((fuel : ℕ) → tallied (suc fuel) job s ≡ tallied fuel job t) → Turned job s (On t)
+  done : {r : Answer} → ((fuel : ℕ) → tallied (suc fuel) job s ≡ told r) → Turned job s (Done r)

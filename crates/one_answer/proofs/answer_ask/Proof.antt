@@ -1,0 +1,73 @@
+-- `one_answer::answer_ask` meets its contract: the leader at the age that the records had reached is the leader by those records.
+-- Assumes nothing.
+use borrow.Author.Needs.{needs}
+use Prim.Native.Nat.{ℕ, _+_}
+use native.Mathlib.Omega.{arith}
+use mathlib.Core.Path.{_≡_, sym, _∙_, ap}
+use mathlib.Core.List.{[], _∷_}
+use denote.Ref.{now}
+use Rattle.table.proofs.Frame.{within-refl}
+use Rattle.following.specs.Meeting.{leaderAt}
+use Rattle.following.proofs.Kept.{past-forest}
+use Rattle.following.proofs.Moments.{leader-after, age-after-most}
+use Rattle.report.specs.Report.{numbers, field, led}
+use Rattle.report.proofs.Bytes.{length-field, length-numbers}
+use Rattle.one_answer.proofs.answer_ask.Statement.{statement}
+use Rattle.one_answer.proofs.answer_ask.Tie as tie
+use Rattle.one_answer.proofs.answer_ask.Reads as reads
+use Rattle.one_answer.proofs.answer_ask.Lts as lts
+
+age-after-requires : tie.Need-age-after-requires
+age-after-requires c κs = let f = c .before .before .pre in (f .past .loaded .long, omega (arith, f .past .low, f .past .loaded .few))
+
+leader-requires : tie.Need-leader-requires
+leader-requires c κs =
+    let s = c .before .before .before in
+    let f = s .pre in
+    (past-forest (f .past), (omega (arith, c .age-after .ensures, age-after-most (f .past) (s .args .before), f .past .low, f .past .loaded .few), omega (arith, f .tags .0, f .past .loaded .few)))
+
+leader-requires-2 : tie.Need-leader-requires-2
+leader-requires-2 c κs =
+    let s = c .before .before .before .before in
+    let f = s .pre in
+    (past-forest (f .past), (omega (arith, c .before .age-after .ensures, age-after-most (f .past) (s .args .before), f .past .low, f .past .loaded .few), omega (arith, f .tags .1, f .past .loaded .few)))
+
+write-led-requires : tie.Need-write-led-requires
+write-led-requires c κs = c .before .before .before .before .before .before .pre .fits
+
+add-result : tie.Need-add-result
+add-result c = search needs
+
+same-length : tie.Need-same-length
+same-length c = search needs
+
+returns : tie.Need-returns
+returns c =
+    let a = c .before .before .before .before .before .before in
+    let s = a .before .before .before in
+    let f = s .pre in
+    let w = now (s .args .work) in
+    let l = c .before .before .before .before .before .leader in
+    let m = c .before .before .before .before .leader2 in
+    let body = numbers (l .result .0 ∷ m .result .0 ∷ []) in
+    record {
+      field = field 131 body;
+      right = led {s = s .args .s .0} {t = s .args .t .0} {l = l .result .0} {m = m .result .0}
+          (rw (l .ensures ∙ ap (λ (n : ℕ). leaderAt w n (s .args .s .0)) (a .age-after .ensures)) (leader-after (f .past) (s .args .before) (f .passed) (s .args .s .0)))
+          (rw (m .ensures ∙ ap (λ (n : ℕ). leaderAt w n (s .args .t .0)) (a .age-after .ensures)) (leader-after (f .past) (s .args .before) (f .passed) (s .args .t .0)));
+      front = c .before .before .write-led .ensures;
+      reached = omega (arith, length-field 131 body, length-numbers (l .result .0 ∷ m .result .0 ∷ []));
+      kept = within-refl w;
+    }
+
+pub answer-ask-spec : {M : Type 1} → statement M
+answer-ask-spec =
+    tie.close
+    (tie.spec
+    age-after-requires
+    leader-requires
+    leader-requires-2
+    write-led-requires
+    add-result
+    same-length
+    returns)

@@ -1,0 +1,32 @@
+-- What is known of a job where the call may go on.
+-- Assumes nothing.
+use Prim.Native.Nat.{ℕ}
+use native.Mathlib.Omega.{arith}
+use mathlib.Core.Path.{_≡_, refl, sym, _∙_}
+use mathlib.Core.Bool.{Bool, true, false}
+use mathlib.Core.List.{List}
+use lib.ListN.{length}
+use Rattle.job.specs.Items.{Item, accepted, recordsOf}
+use Rattle.job.specs.Reading.{reading}
+use Rattle.parts.specs.Look as l
+use Rattle.parts.specs.Look.{Looked}
+use Rattle.parts.specs.Weigh as c
+use Rattle.parts.specs.Weigh.{Viewed}
+
+-- What is known where the call may go on.
+pub record Ready (job : List ℕ) (N k : ℕ) : Type 0 where
+  pub items : List Item
+  pub reads : reading job ≡ accepted N items
+  pub records : k ≡ length (recordsOf items)
+
+pub looked-ready : {job : List ℕ} {room : ℕ} {b : Bool} {n p N k : ℕ} → Looked job room b n p N k → b ≡ true → Ready job N k
+looked-ready (l.unread e) q = let z : _≡_ {A = ℕ} 0 1 = cc in absurd (omega arith)
+looked-ready (l.cramped e h) q = let z : _≡_ {A = ℕ} 0 1 = cc in absurd (omega arith)
+looked-ready (l.ready {items = items} e h) q = record { items = items; reads = e; records = refl }
+
+pub viewed-ready : {job : List ℕ} {b : Bool} {n p N k : ℕ} → Viewed job b n p N k → b ≡ true → Ready job N k
+viewed-ready (c.unread e) q = let z : _≡_ {A = ℕ} 0 1 = cc in absurd (omega arith)
+viewed-ready (c.ready {items = items} e) q = record { items = items; reads = e; records = refl }
+
+pub same-items : (job : List ℕ) (N M : ℕ) (items items′ : List Item) → reading job ≡ accepted N items → reading job ≡ accepted M items′ → items ≡ items′
+same-items job N M items items′ e f = let g : accepted N items ≡ accepted M items′ = sym e ∙ f in cc

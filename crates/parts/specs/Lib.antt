@@ -1,0 +1,4 @@
+pub mod Clear
+pub mod Look
+pub mod Finish
+pub mod Weigh

@@ -1,0 +1,138 @@
+// Whether the numbers that stand in the table's list are a reason: they rise to the first k, they make s and t equal, and none of them can be
+// spared. Document 01, "Reasons". Rests on table, closure and reasons.
+ghost use mathlib.Core.Path.{_≡_};
+ghost use mathlib.Core.Logic.{_↔_};
+ghost use mathlib.Core.Bool.{true};
+ghost use Prim.Native.Nat.{_≤_, _<_};
+ghost use lib.ListN.{length};
+ghost use Rattle.table.specs.Map.{listIn};
+ghost use Rattle.reason_test.specs.Posed.{Deciding};
+ghost use Rattle.reason_test.specs.Lists.{Rising, Swapped, Arranged, Brought, Moved, Named, Entailed, NoneSpare, Sufficient};
+use following::meeting::wide;
+use meaning::RecordNo;
+use meaning::Tag;
+
+// A question at its moment: N, the numbers of all records and of all joins, the records before it, and its two tags.
+pub struct Question {
+    pub size: usize,
+    pub len: usize,
+    pub joins: usize,
+    pub before: usize,
+    pub s: Tag,
+    pub t: Tag,
+}
+
+// Whether the first numbers of the list rise strictly from above 0 and end with `last`, which is 0 where there is none.
+pub fn rises(work: &[u16], count: usize, last: usize) -> bool
+    requires { ⌜ (32768 ≤ length (now work)) × (count ≤ 4000) ⌝ }
+    ensures { λ r. ⌜ (r ≡ true) ↔ Rising (listIn count (now (work .entry))) last ⌝ }
+{
+    let mut top: usize = 0;
+    let mut i = 0;
+    while i < count {
+        let r = table::listed(work, i);
+        let k = wide(r.0);
+        if k <= top {
+            return false;
+        }
+        top = k;
+        i += 1;
+    }
+    top == last
+}
+
+// Two places of the list exchange their numbers.
+fn swap(work: &mut [u16], i: usize, j: usize)
+    requires { ⌜ (32768 ≤ length (now work)) × (i < 4000) × (j < 4000) ⌝ }
+    ensures { λ _. ⌜ Swapped i j (now (work .entry)) (now (work .exit)) ⌝ }
+{
+    let a = table::listed(work, i);
+    let b = table::listed(work, j);
+    table::put_listed(work, i, b);
+    table::put_listed(work, j, a);
+}
+
+// The first numbers of the list come to where those wait that are tried.
+fn put_waiting(work: &mut [u16], count: usize)
+    requires { ⌜ (32768 ≤ length (now work)) × (count ≤ 2000) ⌝ }
+    ensures { λ _. ⌜ Moved count (now (work .entry)) (now (work .exit)) ⌝ }
+{
+    let mut i = 0;
+    while i < count {
+        let r = table::listed(work, i);
+        table::put_listed(work, sparing::listing::WAITING + i, r);
+        i += 1;
+    }
+}
+
+// Whether no number of a list that makes s and t equal can be spared: trimming then leaves as many as there were.
+fn tight(work: &mut [u16], count: usize, q: Question) -> bool
+    requires { ⌜ Named (now work) q count × Entailed (now work) q count ⌝ }
+    ensures { λ r. ⌜ Deciding (NoneSpare (now (work .entry)) q count) (now (work .entry)) (now (work .exit)) r ⌝ }
+{
+    put_waiting(work, count);
+    let kept = sparing::trimming::trim(work, q.size, q.len, count, q.s, q.t);
+    reasons::rising::put_rising(work, q.len, kept) == count
+}
+
+// Whether the list makes s and t equal, and none of its numbers can be spared.
+fn suffices(work: &mut [u16], count: usize, q: Question) -> bool
+    requires { ⌜ Named (now work) q count ⌝ }
+    ensures { λ r. ⌜ Deciding (Sufficient (now (work .entry)) q count) (now (work .entry)) (now (work .exit)) r ⌝ }
+{
+    if closure::entails(work, q.size, q.len, count, q.s, q.t) {
+        tight(work, count, q)
+    } else {
+        false
+    }
+}
+
+// If record r stands in the list from place p on, it comes to place p. Says which place is next.
+fn bring(work: &mut [u16], count: usize, p: usize, r: RecordNo) -> usize
+    requires { ⌜ (32768 ≤ length (now work)) × (count ≤ 4000) × (p ≤ count) ⌝ }
+    ensures { λ n. ⌜ Brought count n (now (work .entry)) (now (work .exit)) ⌝ }
+{
+    let mut j = p;
+    while j < count {
+        let x = table::listed(work, j);
+        if x.0 == r.0 {
+            swap(work, p, j);
+            return p + 1;
+        }
+        j += 1;
+    }
+    p
+}
+
+// The same for both records of the join of age a.
+fn bring_both(work: &mut [u16], count: usize, p: usize, a: usize) -> usize
+    requires { ⌜ (32768 ≤ length (now work)) × (count ≤ 4000) × (p ≤ count) × (a < 1000) ⌝ }
+    ensures { λ n. ⌜ Brought count n (now (work .entry)) (now (work .exit)) ⌝ }
+{
+    let r = table::first(work, a);
+    let n = bring(work, count, p, r);
+    let r2 = table::second(work, a);
+    bring(work, count, n, r2)
+}
+
+// Puts the list into the order in which the closure of all records came to use them: in that order its own closure needs few passes.
+fn arrange(work: &mut [u16], count: usize, joins: usize)
+    requires { ⌜ (32768 ≤ length (now work)) × (count ≤ 4000) × (joins ≤ 1000) ⌝ }
+    ensures { λ _. ⌜ Arranged count (now (work .entry)) (now (work .exit)) ⌝ }
+{
+    let mut p = 0;
+    let mut a = 0;
+    while a < joins {
+        p = bring_both(work, count, p, a);
+        a += 1;
+    }
+}
+
+// The same test for a list in any order.
+pub fn serves(work: &mut [u16], count: usize, q: Question) -> bool
+    requires { ⌜ Named (now work) q count ⌝ }
+    ensures { λ r. ⌜ Deciding (Sufficient (now (work .entry)) q count) (now (work .entry)) (now (work .exit)) r ⌝ }
+{
+    arrange(work, count, q.joins);
+    suffices(work, count, q)
+}

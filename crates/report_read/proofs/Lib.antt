@@ -1,0 +1,4 @@
+pub mod Read
+pub mod Listing
+pub mod Right
+pub mod Decided

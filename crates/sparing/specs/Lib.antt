@@ -1,0 +1,4 @@
+pub mod Notes
+pub mod Listing
+pub mod Trimming
+pub mod Comparing

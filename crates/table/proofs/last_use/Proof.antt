@@ -1,0 +1,36 @@
+-- `table::last_use` meets its contract: what stands at the place is what its region is seen to hold there.
+-- Assumes nothing.
+use borrow.Author.Needs.{needs}
+use mathlib.Core.Path.{sym, _∙_}
+use native.Mathlib.Omega.{arith}
+use mathlib.Core.Bool.{cond}
+use denote.Ref.{now}
+use Rattle.table.proofs.Frame.{seen-at, uses-most}
+use Rattle.table.proofs.last_use.Statement.{statement}
+use Rattle.table.proofs.last_use.Tie as tie
+use Rattle.table.proofs.last_use.Reads as reads
+use Rattle.table.proofs.last_use.Lts as lts
+use Rattle.table.proofs.cell.Reads as cell-reads
+use Rattle.table.proofs.uses.Reads as uses-reads
+use Rattle.table.proofs.wide.Reads as wide-reads
+
+wide-requires : tie.Need-wide-requires
+wide-requires c κs = search needs
+
+uses-requires : tie.Need-uses-requires
+uses-requires c κs = search needs
+
+cell-requires : tie.Need-cell-requires
+cell-requires c κs = let s = c .before .before .before in (s .pre .0, omega (arith, s .pre .1, c .before .wide .ensures, c .uses .ensures, uses-most (s .args .second)))
+
+wide-requires-2 : tie.Need-wide-requires-2
+wide-requires-2 c κs = search needs
+
+returns : tie.Need-returns
+returns c =
+    let s = c .before .before .before .before .before in
+    c .wide2 .ensures ∙ c .before .cell .ensures ∙ rw (c .before .before .uses .ensures, c .before .before .before .wide .ensures) (sym (seen-at (cond (s .args .second) 31764 30764) 1000 (λ x. 0) (now (s .args .work)) (s .args .x .0) (omega (arith, s .pre))))
+
+pub last-use-spec : {M : Type 1} → statement M
+last-use-spec =
+    tie.close (tie.spec wide-requires uses-requires cell-requires wide-requires-2 returns)

@@ -1,0 +1,28 @@
+-- `table::put_parent` meets its contract: one store where links stand.
+-- Assumes nothing.
+use borrow.Author.Needs.{needs}
+use Rattle.table.proofs.put_parent.Statement.{statement}
+use Rattle.table.proofs.put_parent.Tie as tie
+use Rattle.table.proofs.put_parent.Reads as reads
+use Rattle.table.proofs.put_parent.Lts as lts
+use Rattle.table.proofs.store.Reads as store-reads
+use Rattle.table.proofs.wide.Reads as wide-reads
+use mathlib.Core.Path.{ap, _∙_}
+use Prim.Native.Nat.{ℕ, _+_}
+use lib.ListN.{set}
+use denote.Ref.{now}
+
+wide-requires : tie.Need-wide-requires
+wide-requires c κs = search needs
+
+store-requires : tie.Need-store-requires
+store-requires c κs = search needs
+
+same-length : tie.Need-same-length
+same-length c = search needs
+
+returns : tie.Need-returns
+returns c = c .before .before .store .ensures ∙ ap (λ (k : ℕ). set (now (c .before .before .before .before .before .before .args .work)) (12003 + k) (c .before .before .before .before .before .before .args .top .0)) (c .before .before .before .before .wide .ensures)
+
+pub put-parent-spec : {M : Type 1} → statement M
+put-parent-spec = tie.close (tie.spec wide-requires store-requires same-length returns)
