@@ -3,6 +3,7 @@
 // not end as document 01 says, "What is lent, and each refusal", a frame X tells of it. No contract says what is written: the second program judges that.
 // Rests on calls, records, job_read and console.
 ghost use mathlib.Core.Path.{_≡_};
+ghost use Prim.Native.Nat.{_≤_};
 use calls::recheck_over;
 use calls::run_over;
 use console::Got;
@@ -29,12 +30,11 @@ struct Stand {
     count: usize,
 }
 
-// The head of a frame.
+// The head of a frame, or that there is none: whether the stream ended there as it must.
 enum Head {
     Job(usize),
     Report(usize),
-    End,
-    Broken,
+    Stop(bool),
 }
 
 fn wide(x: u8) -> usize
@@ -61,7 +61,9 @@ fn number(a: u8, b: u8, c: u8, d: u8) -> usize {
     wide(a) * 16777216 + wide(b) * 65536 + wide(c) * 256 + wide(d)
 }
 
-fn least(a: usize, b: usize) -> usize {
+fn least(a: usize, b: usize) -> usize
+    ensures { λ r. ⌜ (r ≤ a) × (r ≤ b) ⌝ }
+{
     if a < b { a } else { b }
 }
 
@@ -231,33 +233,27 @@ fn put_length(n: usize) {
 
 // Rechecks a report over so many places of a table of rubbish.
 fn recheck_at(job: &[u8], report: &[u8], work: &mut [u16], places: usize, salt: usize) {
-    if places <= work.len() {
-        soil_table(work, salt);
-        let found = recheck_over(job, report, &mut work[..places], record_of(salt));
-        tell(kept_table(work, zeros_after(found.number), salt));
-        put_answer(b'C', found.number, found.place);
-    }
+    soil_table(work, salt);
+    let n = least(places, work.len());
+    let found = recheck_over(job, report, &mut work[..n], record_of(salt));
+    tell(kept_table(work, zeros_after(found.number), salt));
+    put_answer(b'C', found.number, found.place);
 }
 
 // Runs a job over so many places of a table of rubbish.
 fn run_at(job: &[u8], room: &mut [u8], work: &mut [u16], places: usize, salt: usize) -> Answer {
     soil_table(work, salt);
-    if places <= work.len() {
-        let ran = run_over(job, room, &mut work[..places], record_of(salt));
-        tell(kept_table(work, zeros_after(ran.number), salt));
-        ran
-    } else {
-        run_over(job, room, work, record_of(salt))
-    }
+    let n = least(places, work.len());
+    let ran = run_over(job, room, &mut work[..n], record_of(salt));
+    tell(kept_table(work, zeros_after(ran.number), salt));
+    ran
 }
 
 // The run's report, and what the recheck says of it.
-fn put_report(job: &[u8], room: &[u8], n: usize, work: &mut [u16], places: usize, salt: usize) {
-    if n <= room.len() {
-        put_length(n);
-        write_output(&room[..n]);
-        recheck_at(job, &room[..n], work, places, salt);
-    }
+fn put_report(job: &[u8], report: &[u8], work: &mut [u16], places: usize, salt: usize) {
+    put_length(report.len());
+    write_output(report);
+    recheck_at(job, report, work, places, salt);
 }
 
 // Whether two reports begin with the same bytes.
@@ -273,40 +269,47 @@ fn same(a: &[u8], b: &[u8], n: usize) -> bool {
     good
 }
 
-// Whether the run says the same, byte for byte, where nothing lent is dirty.
-fn alike(
+fn agree(a: Answer, b: Answer) -> bool {
+    a.number == b.number && a.place == b.place && a.length == b.length
+}
+
+fn again(
     job: &[u8],
     room: &[u8],
+    clean: &mut [u8],
     work: &mut [u16],
-    size: usize,
     places: usize,
     ran: Answer,
 ) -> bool {
+    let other = run_at(job, clean, work, places, CLEAN);
+    agree(other, ran) && same(room, clean, ran.length)
+}
+
+// Whether the run says the same, byte for byte, where nothing lent is dirty.
+fn alike(job: &[u8], room: &[u8], work: &mut [u16], places: usize, ran: Answer) -> bool {
     let mut space = [0u8; 65536];
     let clean: &mut [u8] = &mut space;
-    if size <= clean.len() {
-        let again = run_at(job, &mut clean[..size], work, places, CLEAN);
-        again.number == ran.number
-            && again.place == ran.place
-            && again.length == ran.length
-            && same(room, clean, ran.length)
-    } else {
-        false
-    }
+    let n = least(room.len(), clean.len());
+    again(job, room, &mut clean[..n], work, places, ran)
+}
+
+// What is written of a run, and of its recheck.
+fn put_run(job: &[u8], room: &[u8], work: &mut [u16], places: usize, salt: usize, ran: Answer) {
+    tell(alike(job, room, work, places, ran));
+    put_answer(b'R', ran.number, ran.place);
+    let n = least(ran.length, room.len());
+    put_report(job, &room[..n], work, places, salt);
 }
 
 // All that is written of a job with one loan.
 fn answer(job: &[u8], room: &mut [u8], work: &mut [u16], size: usize, places: usize, salt: usize) {
-    if size <= room.len() {
-        put_bytes(b'J', job);
-        put_loan(size, places);
-        soil_room(room, salt);
-        let ran = run_at(job, &mut room[..size], work, places, salt);
-        tell(kept_room(room, ran.length, salt));
-        tell(alike(job, room, work, size, places, ran));
-        put_answer(b'R', ran.number, ran.place);
-        put_report(job, room, ran.length, work, places, salt);
-    }
+    put_bytes(b'J', job);
+    put_loan(size, places);
+    soil_room(room, salt);
+    let n = least(size, room.len());
+    let ran = run_at(job, &mut room[..n], work, places, salt);
+    tell(kept_room(room, ran.length, salt));
+    put_run(job, &room[..n], work, places, salt, ran);
 }
 
 // The room that a job needs, where it is no more than can be lent; 0 where it is refused.
@@ -320,16 +323,32 @@ fn needed(job: &[u8], most: usize) -> usize {
 
 // Every fourth frame, where it is a job, is answered with too little first: a byte of room less, a number of the table less, most of the table
 // missing, most of the room missing.
+fn poor_room(kind: usize, need: usize, salt: usize) -> usize {
+    if kind == 5 {
+        return ROOM;
+    }
+    if kind == 13 {
+        return salt % 8;
+    }
+    if kind == 1 && need > 0 {
+        need - 1
+    } else {
+        need
+    }
+}
+
+fn poor_places(kind: usize, salt: usize) -> usize {
+    if kind == 5 {
+        return NAMED - 1;
+    }
+    if kind == 9 { salt % 1000 } else { NAMED }
+}
+
 fn answer_poor(job: &[u8], room: &mut [u8], work: &mut [u16], need: usize, salt: usize) {
     let kind = salt % 16;
-    if kind == 1 && need > 0 {
-        answer(job, room, work, need - 1, NAMED, salt);
-    } else if kind == 5 {
-        answer(job, room, work, ROOM, NAMED - 1, salt);
-    } else if kind == 9 {
-        answer(job, room, work, need, salt % 1000, salt);
-    } else if kind == 13 {
-        answer(job, room, work, salt % 8, NAMED, salt);
+    if kind % 4 == 1 {
+        let size = poor_room(kind, need, salt);
+        answer(job, room, work, size, poor_places(kind, salt), salt);
     }
 }
 
@@ -350,7 +369,7 @@ fn head_of(letter: u8, n: usize) -> Head {
     } else if letter == b'P' {
         Head::Report(n)
     } else {
-        Head::Broken
+        Head::Stop(false)
     }
 }
 
@@ -361,13 +380,11 @@ fn read_head() -> Head {
         Got::Bytes(m) => {
             if m == 5 {
                 head_of(space[0], number(space[1], space[2], space[3], space[4]))
-            } else if m == 0 {
-                Head::End
             } else {
-                Head::Broken
+                Head::Stop(m == 0)
             }
         }
-        Got::Broken => Head::Broken,
+        Got::Broken => Head::Stop(false),
     }
 }
 
@@ -385,6 +402,10 @@ fn broken() -> Stand {
     write_output(b"!");
     write_error(b"framed: the stream is broken\n");
     halt()
+}
+
+fn stop(ended: bool) -> Stand {
+    if ended { halt() } else { broken() }
 }
 
 // The job has the room that it needs or more, and the table's named places or more.
@@ -460,8 +481,7 @@ fn turn(job: &mut [u8], report: &mut [u8], room: &mut [u8], work: &mut [u16], s:
     match head {
         Head::Job(n) => job_frame(job, room, work, n, s),
         Head::Report(n) => report_frame(job, report, work, n, s),
-        Head::End => halt(),
-        Head::Broken => broken(),
+        Head::Stop(ended) => stop(ended),
     }
 }
 
@@ -481,14 +501,22 @@ fn serve(job: &mut [u8], report: &mut [u8], room: &mut [u8], work: &mut [u16]) {
 }
 
 // A job of more than 43,008 bytes is refused whatever its length, and no report here is longer than 300,000.
+fn with_table(job: &mut [u8], report: &mut [u8], room: &mut [u8]) {
+    let mut space = [0u16; 32832];
+    serve(job, report, room, &mut space);
+}
+
+fn with_room(job: &mut [u8], report: &mut [u8]) {
+    let mut space = [0u8; 65536];
+    with_table(job, report, &mut space);
+}
+
+fn with_reports(job: &mut [u8]) {
+    let mut space = [0u8; 300000];
+    with_room(job, &mut space);
+}
+
 fn main() {
-    let mut job_space = [0u8; 50000];
-    let job: &mut [u8] = &mut job_space;
-    let mut report_space = [0u8; 300000];
-    let report: &mut [u8] = &mut report_space;
-    let mut room_space = [0u8; 65536];
-    let room: &mut [u8] = &mut room_space;
-    let mut work_space = [0u16; 32832];
-    let work: &mut [u16] = &mut work_space;
-    serve(job, report, room, work);
+    let mut space = [0u8; 50000];
+    with_reports(&mut space);
 }

@@ -1,26 +1,23 @@
--- `framed::alike` is safe: the part of the clean room that is lent was tested to lie within it.
+-- `framed::alike` is safe: the part of the clean room that is lent is no longer than that room.
 -- Assumes nothing.
 use borrow.Author.Needs.{needs}
-use Rattle.framed.proofs.alike.Statement.{statement}
-use Rattle.framed.proofs.alike.Tie as tie
 use mathlib.Core.Path.{sym}
 use native.Mathlib.Omega.{arith}
 use lib.Seq.{length-take-le}
+use Rattle.framed.proofs.alike.Statement.{statement}
+use Rattle.framed.proofs.alike.Tie as tie
 
 slice-aggregate-clean : tie.Need-slice-aggregate-clean
 slice-aggregate-clean c = search needs
 
-slice-relend-prefix-run-at : tie.Need-slice-relend-prefix-run-at
-slice-relend-prefix-run-at c = search needs
+least-requires : tie.Need-least-requires
+least-requires c κs = search needs
 
-slice-aggregate-run-at : tie.Need-slice-aggregate-run-at
-slice-aggregate-run-at c = sym (length-take-le _ _ (omega arith))
+slice-aggregate-again : tie.Need-slice-aggregate-again
+slice-aggregate-again c = sym (length-take-le _ _ (omega (arith, c .before .least .ensures .1)))
 
-run-at-requires : tie.Need-run-at-requires
-run-at-requires c κs = search needs
-
-same-requires : tie.Need-same-requires
-same-requires c κs = search needs
+again-requires : tie.Need-again-requires
+again-requires c κs = search needs
 
 same-length : tie.Need-same-length
 same-length c = search needs
@@ -28,26 +25,13 @@ same-length c = search needs
 returns : tie.Need-returns
 returns c = search needs
 
-same-length-2 : tie.Need-same-length-2
-same-length-2 c = search needs
-
-returns-2 : tie.Need-returns-2
-returns-2 c = search needs
-
-returns-3 : tie.Need-returns-3
-returns-3 c = search needs
-
 pub alike-spec : {M : Type 1} → statement M
 alike-spec =
     tie.close
     (tie.spec
     slice-aggregate-clean
-    slice-relend-prefix-run-at
-    slice-aggregate-run-at
-    run-at-requires
-    same-requires
+    least-requires
+    slice-aggregate-again
+    again-requires
     same-length
-    returns
-    same-length-2
-    returns-2
-    returns-3)
+    returns)

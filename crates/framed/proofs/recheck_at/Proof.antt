@@ -1,20 +1,23 @@
--- `framed::recheck_at` is safe: the part of the table that is lent was tested to lie within it.
+-- `framed::recheck_at` is safe: the part of the table that is lent is no longer than the table.
 -- Assumes nothing.
 use borrow.Author.Needs.{needs}
-use Rattle.framed.proofs.recheck_at.Statement.{statement}
-use Rattle.framed.proofs.recheck_at.Tie as tie
 use mathlib.Core.Path.{sym}
 use native.Mathlib.Omega.{arith}
 use lib.Seq.{length-take-le}
+use Rattle.framed.proofs.recheck_at.Statement.{statement}
+use Rattle.framed.proofs.recheck_at.Tie as tie
 
 soil-table-requires : tie.Need-soil-table-requires
 soil-table-requires c κs = search needs
+
+least-requires : tie.Need-least-requires
+least-requires c κs = search needs
 
 slice-relend-prefix-recheck-over : tie.Need-slice-relend-prefix-recheck-over
 slice-relend-prefix-recheck-over c = search needs
 
 slice-aggregate-recheck-over : tie.Need-slice-aggregate-recheck-over
-slice-aggregate-recheck-over c = sym (length-take-le _ _ (omega arith))
+slice-aggregate-recheck-over c = sym (length-take-le _ _ (omega (arith, c .before .least .ensures .1)))
 
 record-of-requires : tie.Need-record-of-requires
 record-of-requires c κs = search needs
@@ -40,14 +43,12 @@ same-length c = search needs
 returns : tie.Need-returns
 returns c = search needs
 
-returns-2 : tie.Need-returns-2
-returns-2 c = search needs
-
 pub recheck-at-spec : {M : Type 1} → statement M
 recheck-at-spec =
     tie.close
     (tie.spec
     soil-table-requires
+    least-requires
     slice-relend-prefix-recheck-over
     slice-aggregate-recheck-over
     record-of-requires
@@ -57,5 +58,4 @@ recheck-at-spec =
     tell-requires
     put-answer-requires
     same-length
-    returns
-    returns-2)
+    returns)

@@ -1,20 +1,23 @@
--- `framed::run_at` is safe: the part of the table that is lent was tested to lie within it.
+-- `framed::run_at` is safe: the part of the table that is lent is no longer than the table.
 -- Assumes nothing.
 use borrow.Author.Needs.{needs}
-use Rattle.framed.proofs.run_at.Statement.{statement}
-use Rattle.framed.proofs.run_at.Tie as tie
 use mathlib.Core.Path.{sym}
 use native.Mathlib.Omega.{arith}
 use lib.Seq.{length-take-le}
+use Rattle.framed.proofs.run_at.Statement.{statement}
+use Rattle.framed.proofs.run_at.Tie as tie
 
 soil-table-requires : tie.Need-soil-table-requires
 soil-table-requires c κs = search needs
+
+least-requires : tie.Need-least-requires
+least-requires c κs = search needs
 
 slice-relend-prefix-run-over : tie.Need-slice-relend-prefix-run-over
 slice-relend-prefix-run-over c = search needs
 
 slice-aggregate-run-over : tie.Need-slice-aggregate-run-over
-slice-aggregate-run-over c = sym (length-take-le _ _ (omega arith))
+slice-aggregate-run-over c = sym (length-take-le _ _ (omega (arith, c .before .before .least .ensures .1)))
 
 record-of-requires : tie.Need-record-of-requires
 record-of-requires c κs = search needs
@@ -31,12 +34,6 @@ kept-table-requires c κs = search needs
 tell-requires : tie.Need-tell-requires
 tell-requires c κs = search needs
 
-record-of-requires-2 : tie.Need-record-of-requires-2
-record-of-requires-2 c κs = search needs
-
-run-over-requires-2 : tie.Need-run-over-requires-2
-run-over-requires-2 c κs = search needs
-
 same-length : tie.Need-same-length
 same-length c = search needs
 
@@ -46,20 +43,12 @@ same-length-2 c = search needs
 returns : tie.Need-returns
 returns c = search needs
 
-same-length-3 : tie.Need-same-length-3
-same-length-3 c = search needs
-
-same-length-4 : tie.Need-same-length-4
-same-length-4 c = search needs
-
-returns-2 : tie.Need-returns-2
-returns-2 c = search needs
-
 pub run-at-spec : {M : Type 1} → statement M
 run-at-spec =
     tie.close
     (tie.spec
     soil-table-requires
+    least-requires
     slice-relend-prefix-run-over
     slice-aggregate-run-over
     record-of-requires
@@ -67,11 +56,6 @@ run-at-spec =
     zeros-after-requires
     kept-table-requires
     tell-requires
-    record-of-requires-2
-    run-over-requires-2
     same-length
     same-length-2
-    returns
-    same-length-3
-    same-length-4
-    returns-2)
+    returns)
