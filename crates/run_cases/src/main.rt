@@ -3,6 +3,7 @@
 // hex, and `ok` where table and room ended as they must. A line of a recheck is number, place and `ok` where they are the expected ones.
 // Rests on calls; no contract says what is written, the stored output does.
 ghost use mathlib.Core.Path.{_≡_};
+ghost use Prim.Native.Nat.{_≤_};
 use calls::recheck_report;
 use calls::run_job;
 use haltzurme::Answer;
@@ -63,10 +64,8 @@ fn swept(table: &[u16]) -> bool {
     let mut i: usize = 0;
     let mut good = true;
     while i < table.len() {
-        if table[i] != 0 && i < 32768 {
-            good = false;
-        }
-        if table[i] != 48879 && i >= 32768 {
+        let due = if i < 32768 { 0 } else { 48879 };
+        if table[i] != due {
             good = false;
         }
         i += 1;
@@ -74,29 +73,32 @@ fn swept(table: &[u16]) -> bool {
     good
 }
 
-// Runs a job with so many places of the table.
-fn run_with(job: &[u8], room: &mut [u8], work: &mut [u16], places: usize) -> Answer {
-    if places <= work.len() {
-        run_job(job, room, &mut work[..places])
-    } else {
-        run_job(job, room, work)
-    }
+fn least(a: usize, b: usize) -> usize
+    ensures { λ r. ⌜ (r ≤ a) × (r ≤ b) ⌝ }
+{
+    if a < b { a } else { b }
+}
+
+fn say_answer(ran: Answer, room: &[u8]) {
+    say_number(long(wide(ran.number)));
+    say_number(long(ran.place));
+    say_number(long(ran.length));
+    hex(room, ran.length);
 }
 
 // Runs a job with so many bytes of room and so many places of the table.
+fn run_with(job: &[u8], room: &mut [u8], work: &mut [u16], size: usize, places: usize) {
+    let n = least(size, room.len());
+    let m = least(places, work.len());
+    let ran = run_job(job, &mut room[..n], &mut work[..m]);
+    say_answer(ran, room);
+    verdict(kept(room, ran.length) && swept(work));
+}
+
 fn run_at(job: &[u8], size: usize, places: usize) {
-    let mut room_space = [165u8; 90];
-    let room: &mut [u8] = &mut room_space;
-    let mut work_space = [48879u16; 32770];
-    let work: &mut [u16] = &mut work_space;
-    if size <= room.len() {
-        let ran = run_with(job, &mut room[..size], work, places);
-        say_number(long(wide(ran.number)));
-        say_number(long(ran.place));
-        say_number(long(ran.length));
-        hex(room, ran.length);
-        verdict(kept(room, ran.length) && swept(work));
-    }
+    let mut room = [165u8; 90];
+    let mut work = [48879u16; 32770];
+    run_with(job, &mut room, &mut work, size, places);
 }
 
 // Exactly the room, and one byte less; the table longer than named, and as named.
