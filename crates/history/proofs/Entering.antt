@@ -6,21 +6,24 @@ use native.Mathlib.Numerals.{add-one}
 use mathlib.Core.Path.{_≡_, refl, sym, ap, _∙_, fun-ext}
 use mathlib.Core.Logic.{_≢_, inl, inr}
 use mathlib.Core.Bool.{Bool, true, false, cond, not}
-use mathlib.Core.List.{List}
+use mathlib.Core.List.{List, List·Memᴰ·eq-of-singleton}
 use lib.ListN.{length, set, length-set}
-use Rattle.meaning.specs.Joins.{put}
+use Rattle.meaning.specs.Joins.{put, equation}
 use Rattle.meaning.proofs.Log.{put-miss}
 use Rattle.table.specs.Map.{leftOf, rightOf, labelOf, useOf, moreOf, stateOf, chainOf, waitOf, bucketOf, Within}
-use Rattle.table.proofs.Frame.{seen-in, seen-out, within-trans, within-wider, within-set}
+use Rattle.table.proofs.Frame.{seen-in, seen-out, within-trans, within-wider, within-set, gather-in}
 use Rattle.labels.proofs.Chain.{below}
 use Rattle.labels.proofs.Views.{lefts, rights}
 use Rattle.index.specs.State.{eqnAt, Filing, Used, Queued, Indexed}
 use Rattle.index.proofs.Filing.{more, uses-eq, uses-app}
 use Rattle.index.proofs.Waiting.{queue-more, queue-put-app}
-use Rattle.index.proofs.Views.{eqn-at, eqns, tags, keys-same, ress-same, wide, labels, keys, ress, uses, mores, store-frame, store-buckets, link-chains, link-waits, wait-chains, wait-waits}
-use Rattle.history.specs.State.{Standing, Level, Joining, Joined, Open, front, Between}
-use Rattle.history.proofs.Moments.{standing-same, standing-next, equate-due}
-use Rattle.history.proofs.Views.{level-same}
+use Rattle.index.proofs.Views.{row-left, row-right, eqn-at, eqns, tags, keys-same, ress-same, wide, labels, keys, ress, uses, mores, store-frame, store-buckets, link-chains, link-waits, wait-chains, wait-waits}
+use Rattle.joining.specs.State.{Standing, Joining, Joined}
+use Rattle.joining.proofs.Standing.{standing-same}
+use Rattle.settling.specs.State.{Level, Open}
+use Rattle.settling.proofs.Views.{level-same, row-at}
+use Rattle.history.specs.State.{front, Between, Admitted}
+use Rattle.history.proofs.Moments.{standing-next}
 
 -- The record of place i was put into the lists of one of its arguments, x.
 pub record Stored (s : Bool) (x i p : ℕ) (w w′ : List ℕ) : Type 0 where
@@ -118,6 +121,22 @@ module _ {N len i : ℕ} {w : List ℕ} {n : ℕ} (b : Between N len i w n) (low
       level : Level (suc i) w₃
       level = level-same frame (λ x y q. rw label q) (below (λ j. eqnAt w j ≡ true → labelOf w (leftOf w (suc j)) ≡ labelOf w (rightOf w (suc j))) i (b .level) (λ q. let z : _≡_ {A = ℕ} 0 1 = cc app in absurd (omega arith)))
 
+-- An equation whose labels differ.
+pub equate-due : {N len i : ℕ} {w : List ℕ} {n first : ℕ} → Standing (front N len (suc i)) w n → Indexed (front N len (suc i)) w first → i < len → eqnAt w i ≡ true
+    → (a b : ℕ) → a ≡ labelOf w (leftOf w (suc i)) → b ≡ labelOf w (rightOf w (suc i)) → a ≢ b → Joining (front N len (suc i)) w n first (suc i) 0 a b
+equate-due {i = i} s x l q a b ea eb d = record {
+  standing = s;
+  indexed = x;
+  some = omega arith;
+  due = record {
+    tags = (row-left (s .loaded) i l, row-right (s .loaded) i l);
+    grounds = equation (rw q at (row-at (s .loaded) i l));
+    within = λ m h. rw (List·Memᴰ·eq-of-singleton h) (gather-in suc (suc i) i (omega arith));
+  };
+  apart = d;
+  ends = inl (sym ea, sym eb);
+}
+
 -- An equation comes in.
 module _ {N len i : ℕ} {w : List ℕ} {n : ℕ} (b : Between N len i w n) (low : i < len) (eqn : eqnAt w i ≡ true) (w′ : List ℕ) (e : w′ ≡ set w (26003 + i) (0 + 1)) where
   most-eqn : i < 4000
@@ -179,3 +198,7 @@ module _ {N len i : ℕ} {w : List ℕ} {n : ℕ} (b : Between N len i w n) (low
     }),
     omega arith,
   )
+
+-- A record is in, and none waits any more.
+pub admitted : {N len i n n′ n″ : ℕ} {w w′ w″ : List ℕ} → Within 12003 32768 w w′ → n ≤ n′ → Within 12003 32768 w′ w″ → Open (front N len (i + 1)) w″ n″ 0 → n′ ≤ n″ → Admitted N len i w n w″ n″
+admitted f a g o b = record { frame = within-trans f g; between = rw add-one at o; more = omega (arith, a, b) }

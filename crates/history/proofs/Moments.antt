@@ -1,5 +1,5 @@
 -- Between two records the labels are closed under the records so far, so this moment is settled and can be kept; the next record only adds to the numbers.
--- A record that is met, and whose labels differ, has a due join. The number of classes is N less the joins, so a record is idle exactly where it made no join.
+-- The number of classes is N less the joins, so a record is idle exactly where it made no join.
 -- Assumes nothing.
 use Prim.Native.Nat.{ℕ, zero, suc, _+_, _-_, _*_, _≤_, _<_}
 use native.Mathlib.Omega.{arith}
@@ -8,12 +8,12 @@ use native.Mathlib.Decide.{ℕ-discrete, decLt}
 use mathlib.Core.Path.{_≡_, refl, sym, ap, _∙_, fun-ext}
 use mathlib.Core.Logic.{_≢_, _↔_, _⊎_, inl, inr}
 use mathlib.Core.Bool.{Bool, true, false}
-use mathlib.Core.List.{List, [], _∷_, _++_, List·Memᴰ, List·Memᴰ·not-nil, List·Memᴰ·eq-of-singleton, List·Memᴰ·cases-cons, Memᴰ·append-left}
+use mathlib.Core.List.{List, [], _∷_, _++_, List·Memᴰ, List·Memᴰ·not-nil, Memᴰ·append-left}
 use lib.Dec.{leb}
 use lib.ListN.{length, take, drop, getD}
-use borrow.Author.Tests.{ne-eqb, le-leb}
+use borrow.Author.Tests.{le-leb}
 use Rattle.meaning.specs.Following.{Rec, eq, app, same, Those, UpTo, Only}
-use Rattle.meaning.specs.Joins.{cong, equation, applications, count}
+use Rattle.meaning.specs.Joins.{count}
 use Rattle.meaning.specs.Labels.{classes}
 use Rattle.meaning.specs.Forest.{root, History}
 use Rattle.meaning.specs.Totals.{Count, one, skip, Classes, Idle}
@@ -21,60 +21,20 @@ use Rattle.meaning.proofs.Close.{more-of, Closed, closed-by}
 use Rattle.meaning.proofs.Forest.{root-stop, root-labels, history-start}
 use Rattle.meaning.proofs.Short.{some-class}
 use Rattle.meaning.proofs.Exact.{Settled, settled-classes, idle-iff}
-use Rattle.table.specs.Map.{leftOf, rightOf, resultOf, parentOf, ageOf, firstOf, secondOf, whenOf, labelOf, useOf, chainOf, seen, joinBy, joinAt, recAt, recordsIn, Loaded, Within}
+use Rattle.table.specs.Map.{leftOf, rightOf, resultOf, parentOf, ageOf, whenOf, labelOf, useOf, seen, joinAt, recAt, recordsIn, Loaded, Within}
 use Rattle.table.proofs.Frame.{seen-at, seen-past, seen-within, within-trans, within-wider, length-gather, gather-in, in-gather}
-use Rattle.history.specs.Past.{ageAfter, leaderAfter}
 use Rattle.labels.specs.Parts.{Fills, CountsUp, Fresh}
 use Rattle.labels.proofs.Rows.{at-rec, eq-parts, app-parts}
-use Rattle.labels.proofs.Views.{lefts, rights, results, loaded-same, records-same, lent-within, lent-at, seen-zero}
-use Rattle.labels.proofs.Rows.{split-key}
-use Rattle.labels.proofs.Views.{fresh-labels, fresh-total}
+use Rattle.labels.proofs.Views.{loaded-same, records-same, fresh-labels, fresh-total, lent-within, lent-at, seen-zero}
 use Rattle.index.specs.declared.Front.{Front}
-use Rattle.index.specs.State.{eqnAt, keyAt, resAt, foundIn, Indexed}
-use Rattle.index.proofs.Filing.{none, found-hit, all-known, uses-none}
-use Rattle.index.proofs.Waiting.{queue-none, queue-empty, queue-head}
-use Rattle.index.proofs.Views.{row-left, row-right}
+use Rattle.index.specs.State.{eqnAt, resAt, foundIn}
+use Rattle.index.proofs.Filing.{none, all-known, uses-none}
+use Rattle.index.proofs.Waiting.{queue-none, queue-empty}
+use Rattle.joining.specs.State.{upTo, Logged, Standing}
+use Rattle.settling.specs.State.{Open}
+use Rattle.history.specs.Past.{ageAfter, leaderAfter}
 use Rattle.history.specs.Closing.{Closing}
-use Rattle.history.specs.State.{upTo, Logged, Standing, Joining, Open, Unifying, front, Between, Admitted, Begun, Unlinked}
-use Rattle.history.proofs.Views.{row-result, row-at}
-
--- A change behind the log that keeps the labels keeps what stands.
-module _ {w w′ : List ℕ} (f : Within 17003 32768 w w′) (label : labelOf w′ ≡ labelOf w) where
-  frame : Within 12003 32768 w w′
-  frame = within-wider 12003 32768 (omega arith) (omega arith) f
-
-  parent : parentOf w′ ≡ parentOf w
-  parent = seen-within 12003 1000 (λ x. x) f (inl (omega arith))
-
-  age : ageOf w′ ≡ ageOf w
-  age = seen-within 13003 1000 (λ x. 1000) f (inl (omega arith))
-
-  first : firstOf w′ ≡ firstOf w
-  first = seen-within 14003 1000 (λ x. 0) f (inl (omega arith))
-
-  second : secondOf w′ ≡ secondOf w
-  second = seen-within 15003 1000 (λ x. 0) f (inl (omega arith))
-
-  when : whenOf w′ ≡ whenOf w
-  when = seen-within 16003 1000 (λ x. 0) f (inl (omega arith))
-
-  joins : joinAt w′ ≡ joinAt w
-  joins = fun-ext (λ a. rw (first, second, lefts frame, rights frame, results frame))
-
-  pub standing-same : {t : Front} {n : ℕ} → Standing t w n → Standing t w′ n
-  standing-same s = record {
-    loaded = loaded-same frame (s .loaded);
-    reach = s .reach;
-    labels = rw label (s .labels);
-    sound = rw (lefts frame, rights frame, results frame, label) (s .sound);
-    total = rw label (s .total);
-    own = rw label (s .own);
-    tops = record { above = rw (label, parent) (s .tops .above); below = rw (label, parent) (s .tops .below) };
-    log = rw (joins, lefts frame, rights frame, results frame, label, parent, age, when) (s .log);
-  }
-
-pub standing-frame : {t : Front} {w w′ : List ℕ} {n : ℕ} → Within 26003 32768 w w′ → Standing t w n → Standing t w′ n
-standing-frame f = standing-same (within-wider 17003 32768 (omega arith) (omega arith) f) (seen-within 21003 1000 (λ x. x) f (inl (omega arith)))
+use Rattle.history.specs.State.{front, Between, Admitted, Begun, Unlinked}
 
 -- Where none waits, the labels are closed under the records that are in.
 open-closed : {t : Front} {w : List ℕ} {n : ℕ} → Open t w n 0 → Closed (Only (recordsIn (t .len) w) (upTo (t .places))) (labelOf w)
@@ -168,78 +128,6 @@ standing-next {N} {len} {i} {w} {n} b low = record {
     moments = λ k l. moments-now b k (omega arith);
   };
 }
-
--- An equation whose labels differ.
-pub equate-due : {N len i : ℕ} {w : List ℕ} {n first : ℕ} → Standing (front N len (suc i)) w n → Indexed (front N len (suc i)) w first → i < len → eqnAt w i ≡ true
-    → (a b : ℕ) → a ≡ labelOf w (leftOf w (suc i)) → b ≡ labelOf w (rightOf w (suc i)) → a ≢ b → Joining (front N len (suc i)) w n first (suc i) 0 a b
-equate-due {i = i} s x l q a b ea eb d = record {
-  standing = s;
-  indexed = x;
-  some = omega arith;
-  due = record {
-    tags = (row-left (s .loaded) i l, row-right (s .loaded) i l);
-    grounds = equation (rw q at (row-at (s .loaded) i l));
-    within = λ m h. rw (List·Memᴰ·eq-of-singleton h) (gather-in suc (suc i) i (omega arith));
-  };
-  apart = d;
-  ends = inl (sym ea, sym eb);
-}
-
--- The labels of two applications with one key.
-module _ {t : Front} {w : List ℕ} {n : ℕ} (s : Standing t w n) where
-  right-fits : (j : ℕ) → j < t .places → labelOf w (rightOf w (suc j)) < 65536
-  right-fits j l = omega (arith, s .labels .low (rightOf w (suc j)), row-right (s .loaded) j (omega (arith, s .reach)), s .loaded .few)
-
-  pub key-args : (j r : ℕ) → j < t .places → r < t .places → keyAt w r ≡ keyAt w j
-      → (labelOf w (leftOf w (suc r)) ≡ labelOf w (leftOf w (suc j))) × (labelOf w (rightOf w (suc r)) ≡ labelOf w (rightOf w (suc j)))
-  key-args j r l k e = split-key (labelOf w (leftOf w (suc r))) (labelOf w (rightOf w (suc r))) (labelOf w (leftOf w (suc j))) (labelOf w (rightOf w (suc j))) (right-fits r k) (right-fits j l) e
-
--- An application whose result's label differs from that of the one that is found.
-module _ {t : Front} {w : List ℕ} {p j n : ℕ} (u : Unifying t w p j n) where
-  -- It is the first that waits.
-  pub unify-head : (j < t .places) × (eqnAt w j ≡ false) × (chainOf w j ≡ 0)
-  unify-head = queue-head j (u .state .indexed .queue)
-
-  hit : (keyAt w (p - 1) ≡ keyAt w j) × (p ≤ t .places) × (eqnAt w (p - 1) ≡ false) × (0 < chainOf w (p - 1))
-  hit = rw (u .found) (found-hit (u .state .indexed .filing .filed) (keyAt w j) (rw (u .found) at (u .hit)))
-
-  pub unify-low : p - 1 < t .places
-  unify-low = omega (arith, hit .1, u .hit)
-
-  pub unify-app : eqnAt w (p - 1) ≡ false
-  unify-app = hit .2
-
-  from : suc (p - 1) ≡ p
-  from = omega (arith, u .hit)
-
-  abbrev s : Standing t w n
-  s = u .state .standing
-
-  args : (labelOf w (leftOf w (suc (p - 1))) ≡ labelOf w (leftOf w (suc j))) × (labelOf w (rightOf w (suc (p - 1))) ≡ labelOf w (rightOf w (suc j)))
-  args = key-args s j (p - 1) (unify-head .0) unify-low (hit .0)
-
-  low-len : (r : ℕ) → r < t .places → r < t .len
-  low-len r l = omega (arith, s .reach)
-
-  pair : joinBy w (suc (p - 1)) (suc j) ≡ record { u = resultOf w (suc (p - 1)); v = resultOf w (suc j); why = cong (suc (p - 1)) (suc j) }
-  pair = rw (ne-eqb (suc j) 0 (omega arith))
-
-  due : (a b : ℕ) → a ≡ labelOf w (resultOf w (suc (p - 1))) → b ≡ labelOf w (resultOf w (suc j)) → a ≢ b → Joining t w n (suc j) (suc (p - 1)) (suc j) a b
-  due a b ea eb d = record {
-    standing = s;
-    indexed = u .state .indexed;
-    some = omega (arith, unify-head .0);
-    due = rw pair (record {
-      tags = (row-result (s .loaded) (p - 1) (low-len (p - 1) unify-low) unify-app, row-result (s .loaded) j (low-len j (unify-head .0)) (unify-head .1));
-      grounds = applications (rw unify-app at (row-at (s .loaded) (p - 1) (low-len (p - 1) unify-low))) (rw (unify-head .1) at (row-at (s .loaded) j (low-len j (unify-head .0)))) (args .0) (args .1);
-      within = λ m h. elim (List·Memᴰ·cases-cons h) [ inl q ↦ rw q (gather-in suc (t .places) (p - 1) unify-low) | inr r ↦ rw (List·Memᴰ·eq-of-singleton r) (gather-in suc (t .places) j (unify-head .0)) ];
-    });
-    apart = d;
-    ends = rw pair (inl (sym ea, sym eb));
-  }
-
-  pub unify-due : (a b : ℕ) → a ≡ labelOf w (resultOf w p) → b ≡ labelOf w (resultOf w (suc j)) → a ≢ b → Joining t w n (suc j) p (suc j) a b
-  unify-due a b ea eb d = rw from at (due a b (rw from ea) eb d)
 
 -- The ages are lent, and come back filled.
 pub unlinked : (w w′ v : List ℕ) → 32768 ≤ length w → length v ≡ length (take 1000 (drop 13003 w)) → w′ ≡ take 13003 w ++ (v ++ drop 1000 (drop 13003 w)) → Fills v 1000 → Unlinked w w′

@@ -9,7 +9,7 @@ use Prim.Native.Nat.{_<_}
 use Rattle.index.specs.State.{eqnAt}
 use Rattle.history.proofs.admit.Statement.{statement}
 use Rattle.history.proofs.admit.Tie as tie
-use Rattle.history.proofs.Passing.{admitted}
+use Rattle.history.proofs.Entering.{admitted}
 
 low : (s : tie.Start) → s .args .i < 4000
 low s = omega (arith, s .pre .1, s .pre .0 .standing .loaded .most)

@@ -1,0 +1,5 @@
+pub mod Standing
+pub mod Joining
+pub mod Logging
+pub mod Tops
+pub mod Uniting

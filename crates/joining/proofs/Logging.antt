@@ -1,0 +1,94 @@
+-- The five stores that keep a join: what the log and the links show after one more.
+-- Assumes nothing.
+use Prim.Native.Nat.{ℕ, _+_, _≤_, _<_}
+use native.Mathlib.Omega.{arith}
+use native.Mathlib.Decide.{ℕ-discrete}
+use mathlib.Core.Path.{_≡_, ap, _∙_, fun-ext}
+use mathlib.Core.Logic.{inl, inr}
+use mathlib.Core.List.{List}
+use lib.ListN.{length, set, length-set}
+use Rattle.meaning.specs.Joins.{put}
+use Rattle.meaning.proofs.Log.{put-hit, put-miss}
+use Rattle.table.specs.Map.{parentOf, ageOf, firstOf, secondOf, whenOf, joinBy, joinAt, Within}
+use Rattle.table.proofs.Frame.{seen-in, seen-out, seen-within, within-trans, within-wider, within-set}
+use Rattle.labels.proofs.Views.{lefts, rights, results}
+use Rattle.joining.specs.State.{noted}
+
+pub noted-size : (w : List ℕ) (lo hi n k k′ m : ℕ) → length (noted w lo hi n k k′ m) ≡ length w
+noted-size w lo hi n k k′ m = simp length-set
+
+-- The five stores.
+module _ (w : List ℕ) (long : 32768 ≤ length w) (lo hi n k k′ m : ℕ) (high : hi < 1000) (young : n < 1000) where
+  abbrev w₁ : List ℕ
+  w₁ = set w (12003 + hi) lo
+
+  abbrev w₂ : List ℕ
+  w₂ = set w₁ (13003 + hi) n
+
+  abbrev w₃ : List ℕ
+  w₃ = set w₂ (14003 + n) k
+
+  abbrev w₄ : List ℕ
+  w₄ = set w₃ (15003 + n) k′
+
+  abbrev pub stored : List ℕ
+  stored = set w₄ (16003 + n) m
+
+  l₁ : length w₁ ≡ length w
+  l₁ = length-set w (12003 + hi) lo
+
+  l₂ : length w₂ ≡ length w
+  l₂ = length-set w₁ (13003 + hi) n ∙ l₁
+
+  l₃ : length w₃ ≡ length w
+  l₃ = length-set w₂ (14003 + n) k ∙ l₂
+
+  l₄ : length w₄ ≡ length w
+  l₄ = length-set w₃ (15003 + n) k′ ∙ l₃
+
+  linked : Within 12003 14003 w w₂
+  linked = within-trans (within-set 12003 14003 w (12003 + hi) lo (omega arith) (omega arith)) (within-set 12003 14003 w₁ (13003 + hi) n (omega arith) (omega arith))
+
+  logged : Within 14003 17003 w₂ stored
+  logged = within-trans (within-set 14003 17003 w₂ (14003 + n) k (omega arith) (omega arith))
+      (within-trans (within-set 14003 17003 w₃ (15003 + n) k′ (omega arith) (omega arith)) (within-set 14003 17003 w₄ (16003 + n) m (omega arith) (omega arith)))
+
+  pub stored-frame : Within 12003 17003 w stored
+  stored-frame = within-trans (within-wider 12003 17003 (omega arith) (omega arith) linked) (within-wider 12003 17003 (omega arith) (omega arith) logged)
+
+  pub stored-parent : parentOf stored ≡ put hi lo (parentOf w)
+  stored-parent = seen-within 12003 1000 (λ x. x) logged (inl (omega arith)) ∙ seen-out 12003 1000 (λ x. x) w₁ (13003 + hi) n (inr (omega arith)) ∙ seen-in 12003 1000 (λ x. x) w hi lo high (omega arith)
+
+  pub stored-age : ageOf stored ≡ put hi n (ageOf w)
+  stored-age = seen-within 13003 1000 (λ x. 1000) logged (inl (omega arith)) ∙ seen-in 13003 1000 (λ x. 1000) w₁ hi n high (omega (arith, l₁))
+      ∙ ap (put hi n) (seen-out 13003 1000 (λ x. 1000) w (12003 + hi) lo (inl (omega arith)))
+
+  stored-first : firstOf stored ≡ put n k (firstOf w)
+  stored-first = seen-out 14003 1000 (λ x. 0) w₄ (16003 + n) m (inr (omega arith)) ∙ seen-out 14003 1000 (λ x. 0) w₃ (15003 + n) k′ (inr (omega arith))
+      ∙ seen-in 14003 1000 (λ x. 0) w₂ n k young (omega (arith, l₂)) ∙ ap (put n k) (seen-within 14003 1000 (λ x. 0) linked (inr (omega arith)))
+
+  stored-second : secondOf stored ≡ put n k′ (secondOf w)
+  stored-second = seen-out 15003 1000 (λ x. 0) w₄ (16003 + n) m (inr (omega arith)) ∙ seen-in 15003 1000 (λ x. 0) w₃ n k′ young (omega (arith, l₃))
+      ∙ ap (put n k′) (seen-out 15003 1000 (λ x. 0) w₂ (14003 + n) k (inl (omega arith)) ∙ seen-within 15003 1000 (λ x. 0) linked (inr (omega arith)))
+
+  pub stored-when : whenOf stored ≡ put n m (whenOf w)
+  stored-when = seen-in 16003 1000 (λ x. 0) w₄ n m young (omega (arith, l₄))
+      ∙ ap (put n m) (seen-out 16003 1000 (λ x. 0) w₃ (15003 + n) k′ (inl (omega arith)) ∙ seen-out 16003 1000 (λ x. 0) w₂ (14003 + n) k (inl (omega arith)) ∙ seen-within 16003 1000 (λ x. 0) linked (inr (omega arith)))
+
+  -- The log has one more join.
+  pub stored-join : joinAt stored ≡ put n (joinBy w k k′) (joinAt w)
+  stored-join = fun-ext (λ a. rw (stored-first, stored-second, lefts wide, rights wide, results wide) (go a (ℕ-discrete a n)))
+    where
+      wide : Within 12003 30096 w stored
+      wide = within-wider 12003 30096 (omega arith) (omega arith) stored-frame
+
+      go : (a : ℕ) → Dec (a ≡ n) → joinBy w (put n k (firstOf w) a) (put n k′ (secondOf w) a) ≡ put n (joinBy w k k′) (joinAt w) a
+      go a (yes q) = rw (q, put-hit n k (firstOf w), put-hit n k′ (secondOf w), put-hit n (joinBy w k k′) (joinAt w))
+      go a (no q) = rw (put-miss n k (firstOf w) a q, put-miss n k′ (secondOf w) a q, put-miss n (joinBy w k k′) (joinAt w) a q)
+
+-- What the joins kept show after one more, which also raised the top of its class to t.
+pub record Log (w w′ : List ℕ) (lo hi n k k′ m t : ℕ) : Type 0 where
+  pub parent : parentOf w′ ≡ put lo t (put hi lo (parentOf w))
+  pub age : ageOf w′ ≡ put hi n (ageOf w)
+  pub join : joinAt w′ ≡ put n (joinBy w k k′) (joinAt w)
+  pub when : whenOf w′ ≡ put n m (whenOf w)
