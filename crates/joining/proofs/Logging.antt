@@ -14,8 +14,9 @@ use Rattle.table.proofs.Frame.{seen-in, seen-out, seen-within, within-trans, wi
 use Rattle.labels.proofs.Views.{lefts, rights, results}
 use Rattle.joining.specs.State.{noted}
 
-pub noted-size : (w : List ℕ) (lo hi n k k′ m : ℕ) → length (noted w lo hi n k k′ m) ≡ length w
-noted-size w lo hi n k k′ m = simp length-set
+-- The two for the link, then the three for the log.
+pub noted-both : (w w₁ w₂ : List ℕ) (lo hi n k k′ m : ℕ) → w₁ ≡ set (set w (12003 + hi) lo) (13003 + hi) n → w₂ ≡ set (set (set w₁ (14003 + n) k) (15003 + n) k′) (16003 + n) m → w₂ ≡ noted w lo hi n k k′ m
+noted-both w w₁ w₂ lo hi n k k′ m a b = b ∙ ap (λ (l : List ℕ). set (set (set l (14003 + n) k) (15003 + n) k′) (16003 + n) m) a
 
 -- The five stores.
 module _ (w : List ℕ) (long : 32768 ≤ length w) (lo hi n k k′ m : ℕ) (high : hi < 1000) (young : n < 1000) where

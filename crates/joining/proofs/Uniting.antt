@@ -204,10 +204,10 @@ module _ {t : Front} {w : List ℕ} {n first k k′ lo hi : ℕ} (J : Joining t 
     queue = let q : Queue (t .places) (eqnAt w) (chainOf w₁) (waitOf w₁) to = rw (eqns narrow) at (T .queue) in rw (eqns frame, chain, after) q
 
     -- The top of lo is still what it was when the join was kept.
-    pub unite-old : parentOf w₀ lo ≡ parentOf w lo
+    unite-old : parentOf w₀ lo ≡ parentOf w lo
     unite-old = ap (λ (p : ℕ → ℕ). p lo) parent₀ ∙ put-miss hi lo (parentOf w) lo (omega arith)
 
-    pub unite-done : parentOf w lo ≤ m₀ → parentOf w hi ≤ m₀ → (m₀ ≡ parentOf w lo) ⊎ (m₀ ≡ parentOf w hi) → Joined t w n lo hi w₃ to
+    unite-done : parentOf w lo ≤ m₀ → parentOf w hi ≤ m₀ → (m₀ ≡ parentOf w lo) ⊎ (m₀ ≡ parentOf w hi) → Joined t w n lo hi w₃ to
     unite-done a c d = record {
       frame = frame;
       standing = unite-standing m₀ frame label log a c d;
@@ -219,6 +219,12 @@ module _ {t : Front} {w : List ℕ} {n first k k′ lo hi : ℕ} (J : Joining t 
       same = λ x y e. rw label (ap (into lo hi) e);
       ends = λ x y a b. rw (label, a, b, into-hit lo hi, into-miss lo hi lo (omega arith));
     }
+
+    -- The larger of the two tops, as they were read, was stored.
+    pub unite-end : {old top : ℕ} → top ≡ parentOf w hi → old ≡ parentOf w₀ lo → (old ≤ m₀) × (top ≤ m₀) × ((m₀ ≡ old) ⊎ (m₀ ≡ top)) → Joined t w n lo hi w₃ to
+    unite-end et eo h =
+        let e = eo ∙ unite-old in
+        unite-done (omega (arith, h .0, e)) (omega (arith, h .1, et)) (elim (h .2) [ inl q ↦ inl (q ∙ e) | inr q ↦ inr (q ∙ et) ])
 
 -- The two ends may change places.
 pub joining-flip : {t : Front} {w : List ℕ} {n first k k′ a b : ℕ} → Joining t w n first k k′ a b → Joining t w n first k k′ b a
@@ -239,3 +245,15 @@ joined-flip D = record {
   same = D .same;
   ends = λ x y a b. sym (D .ends y x b a);
 }
+
+-- .. and are put in order.
+abbrev pub Order : ℕ → ℕ → ℕ → ℕ → Type 0
+Order a b lo hi = ((b < a) × (lo ≡ b) × (hi ≡ a)) ⊎ ((a ≤ b) × (lo ≡ a) × (hi ≡ b))
+
+pub joining-order : {t : Front} {w : List ℕ} {n first k k′ a b lo hi : ℕ} → Joining t w n first k k′ a b → Order a b lo hi → Joining t w n first k k′ lo hi × (lo < hi)
+joining-order J (inl h) = rw (h .1, h .2) (joining-flip J, h .0)
+joining-order J (inr h) = rw (h .1, h .2) (J, omega (arith, h .0, J .apart))
+
+pub joined-order : {t : Front} {w : List ℕ} {n a b lo hi : ℕ} {w′ : List ℕ} {first : ℕ} → Joined t w n lo hi w′ first → Order a b lo hi → Joined t w n a b w′ first
+joined-order D (inl h) = joined-flip (rw (h .1, h .2) at D)
+joined-order D (inr h) = rw (h .1, h .2) at D

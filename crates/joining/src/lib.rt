@@ -89,8 +89,11 @@ pub fn join(
     requires { ⌜ Joining front (now work) joins first (one .0) (other .0) (a .0) (b .0) ⌝ }
     ensures { λ r. ⌜ Joined front (now (work .entry)) joins (a .0) (b .0) (now (work .exit)) r ⌝ }
 {
-    if a.0 < b.0 {
-        return unite(work, front, joins, first, one, other, a, b);
+    let mut lo = a;
+    let mut hi = b;
+    if b.0 < a.0 {
+        lo = b;
+        hi = a;
     }
-    unite(work, front, joins, first, one, other, b, a)
+    unite(work, front, joins, first, one, other, lo, hi)
 }

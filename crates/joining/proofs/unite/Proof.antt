@@ -1,18 +1,16 @@
 -- `unite` meets its contract. The bounds that the stores need come from the join's being due; the rest is the law of a join.
 -- Assumes nothing.
-use borrow.Author.Needs.{needs}
-use mathlib.Core.Path.{_≡_, _∙_}
-use mathlib.Core.Logic.{_⊎_, inl, inr}
+use mathlib.Core.Path.{_≡_, sym, ap, _∙_}
+use mathlib.Core.Logic.{inl}
 use Prim.Native.Nat.{ℕ, _≤_, _<_}
 use native.Mathlib.Omega.{arith}
 use denote.Ref.{now}
 use lib.ListN.{length}
-use Rattle.table.specs.Map.{parentOf, labelOf}
+use Rattle.table.specs.Map.{labelOf}
 use Rattle.table.proofs.Frame.{seen-within}
 use Rattle.joining.proofs.unite.Statement.{statement}
 use Rattle.joining.proofs.unite.Tie as tie
-use Rattle.joining.proofs.Uniting.{unite-high, unite-young, unite-top, unite-between, unite-over, unite-lo, unite-old, unite-done}
-use Rattle.joining.proofs.Logging.{noted-size}
+use Rattle.joining.proofs.Uniting.{unite-high, unite-young, unite-top, unite-between, unite-over, unite-lo, unite-end}
 
 long : (s : tie.Start) → 32768 ≤ length (now (s .args .work))
 long s = s .pre .0 .standing .loaded .long
@@ -47,7 +45,8 @@ rename-requires : tie.Need-rename-requires
 rename-requires c κs =
     let a = c .before .before .before in
     let p = parent-of a in
-    (long₁ a, top-over p, top-low p, rw (seen-within 21003 1000 (λ x. x) (a .touch-class .ensures .0 .frame) (inl (omega arith))) (between p))
+    let same = seen-within 21003 1000 (λ x. x) (a .touch-class .ensures .0 .frame) (inl (omega arith)) in
+    (long₁ a, top-over p, top-low p, λ x e. between p x (sym (ap (λ (f : ℕ → ℕ). f x) same) ∙ e))
 
 abbrev touched-of : tie.After-rename → tie.After-touch-class
 touched-of m = m .before .before .before .before
@@ -64,7 +63,7 @@ note-requires : tie.Need-note-requires
 note-requires c κs =
     let m = c .before .before .before in
     let s = at-start (parent-of (touched-of m)) in
-    (long₂ m, unite-high (s .pre .0) (s .pre .1), unite-young (s .pre .0) (s .pre .1))
+    (long₂ m, omega (arith, s .pre .1, unite-high (s .pre .0) (s .pre .1)), unite-young (s .pre .0) (s .pre .1))
 
 -- After the join was kept.
 abbrev renamed-of : tie.After-note → tie.After-rename
@@ -74,19 +73,24 @@ abbrev begun : tie.After-note → tie.Start
 begun d = at-start (parent-of (touched-of (renamed-of d)))
 
 long₀ : (d : tie.After-note) → 32768 ≤ length (d .note .last .0)
-long₀ d = rw (d .note .ensures) (omega (arith, long₂ (renamed-of d), noted-size (renamed-of d .rename .last .0) (begun d .args .lo .0) (begun d .args .hi .0) (begun d .args .joins) (begun d .args .one .0) (begun d .args .other .0) (begun d .args .front .places)))
+long₀ d = omega (arith, long₂ (renamed-of d), d .note .kept .0)
 
 parent-requires-2 : tie.Need-parent-requires-2
 parent-requires-2 c κs = let d = c .before .before .before in (long₀ d, unite-lo (begun d .pre .0) (begun d .pre .1))
 
 higher-requires : tie.Need-higher-requires
-higher-requires c κs = search needs
+higher-requires c κs = tt
 
 put-parent-requires : tie.Need-put-parent-requires
 put-parent-requires c κs = let d = c .before .before .before .before .before .before in (long₀ d, unite-lo (begun d .pre .0) (begun d .pre .1))
 
 same-length : tie.Need-same-length
-same-length c = search needs
+same-length c =
+    let x = c .before .before in
+    let d = x .before .before .before .before .before .before .before in
+    let m = renamed-of d in
+    let a = touched-of m in
+    x .put-parent .kept .0 ∙ d .note .kept .0 ∙ m .rename .kept .0 ∙ a .touch-class .kept .0
 
 returns : tie.Need-returns
 returns c =
@@ -96,12 +100,8 @@ returns c =
     let d = o .before .before .before .before in
     let m = renamed-of d in
     let a = touched-of m in
-    let p = parent-of a in
     let s = begun d in
-    let e : o .parent2 .result .0 ≡ parentOf (now (s .args .work)) (s .args .lo .0) = o .parent2 .ensures ∙ unite-old (s .pre .0) (s .pre .1) (h .higher .result .0) (a .touch-class .ensures .0) (a .touch-class .ensures .1) (m .rename .ensures) (d .note .ensures) (x .put-parent .ensures) in
-    let one : h .higher .result .0 ≡ o .parent2 .result .0 → (h .higher .result .0 ≡ parentOf (now (s .args .work)) (s .args .lo .0)) ⊎ (h .higher .result .0 ≡ parentOf (now (s .args .work)) (s .args .hi .0)) = λ q. inl (q ∙ e) in
-    unite-done (s .pre .0) (s .pre .1) (h .higher .result .0) (a .touch-class .ensures .0) (a .touch-class .ensures .1) (m .rename .ensures) (d .note .ensures) (x .put-parent .ensures)
-    (omega (arith, h .higher .ensures .0, e)) (omega (arith, h .higher .ensures .1, p .parent .ensures)) (elim (h .higher .ensures .2) [ inl q ↦ one q | inr q ↦ inr (q ∙ p .parent .ensures) ])
+    unite-end (s .pre .0) (s .pre .1) (h .higher .result .0) (a .touch-class .ensures .0) (a .touch-class .ensures .1) (m .rename .ensures) (d .note .ensures) (x .put-parent .ensures) (parent-of a .parent .ensures) (o .parent2 .ensures) (h .higher .ensures)
 
 pub unite-spec : {M : Type 1} → statement M
 unite-spec =
