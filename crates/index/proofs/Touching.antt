@@ -444,7 +444,7 @@ pub record Swept (t : Front) (hi : ℕ) (w w′ : List ℕ) (x to : ℕ) : Type 
   pub touched : Touched t w w′ to
   pub waits : (y : ℕ) → y < x → labelOf w y ≡ hi → (j : ℕ) → j < t .places → eqnAt w j ≡ false → (leftOf w (suc j) ≡ y) ⊎ (rightOf w (suc j) ≡ y) → chainOf w′ j ≡ 0
 
-pub swept-none : {t : Front} {hi top : ℕ} {w : List ℕ} {first : ℕ} → Indexed t w first → ((x : ℕ) → labelOf w x ≡ hi → (hi ≤ x) × (x ≤ top)) → Swept t hi w w hi first
+pub swept-none : {t : Front} {hi from top : ℕ} {w : List ℕ} {first : ℕ} → Indexed t w first → ((x : ℕ) → labelOf w x ≡ hi → (from ≤ x) × (x ≤ top)) → Swept t hi w w from first
 swept-none i h = record { touched = touched-refl (i .filing) (i .queue); waits = λ y l e. absurd (omega (arith, h y e .0)) }
 
 pub swept-step : {t : Front} {hi : ℕ} {w w₁ w′ : List ℕ} (x to to′ : ℕ) → Swept t hi w w₁ x to → Touched t w₁ w′ to′
@@ -463,7 +463,7 @@ swept-step {t} {hi} {w} {w₁} {w′} x to to′ s c h = record {
     here′ : (j : ℕ) → j < t .places → eqnAt w j ≡ false → labelOf w x ≡ hi → (leftOf w (suc j) ≡ x) ⊎ (rightOf w (suc j) ≡ x) → chainOf w′ j ≡ 0
     here′ = rw (← lefts (wide f), ← rights (wide f), ← results (wide f), ← labels f) h
 
-pub swept-all : {t : Front} {hi top : ℕ} {w w′ : List ℕ} (x to : ℕ) → ((y : ℕ) → labelOf w y ≡ hi → (hi ≤ y) × (y ≤ top)) → top < x → Swept t hi w w′ x to
+pub swept-all : {t : Front} {hi from top : ℕ} {w w′ : List ℕ} (x to : ℕ) → ((y : ℕ) → labelOf w y ≡ hi → (from ≤ y) × (y ≤ top)) → top < x → Swept t hi w w′ x to
     → (j : ℕ) → j < t .places → eqnAt w j ≡ false → (labelOf w (leftOf w (suc j)) ≡ hi) ⊎ (labelOf w (rightOf w (suc j)) ≡ hi) → chainOf w′ j ≡ 0
 swept-all {w = w} x to g l s j k q d =
     elim d [

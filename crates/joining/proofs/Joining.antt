@@ -11,12 +11,12 @@ use lib.Dec.{leb}
 use borrow.Author.Tests.{lt-leb}
 use Rattle.meaning.specs.Following.{Rec, Follows, flip, chain, given, congruent, Only}
 use Rattle.meaning.specs.Joins.{Join, Why, Grounds, equation, applications, Joined, all, numbersOf, used, count, put}
-use Rattle.meaning.specs.Labels.{into}
+use Rattle.meaning.specs.Labels.{Labels, into}
 use Rattle.meaning.specs.Forest.{root}
 use Rattle.meaning.proofs.Count.{count-low}
 use Rattle.meaning.proofs.Log.{put-hit, put-miss, grounds-more, linked-same, used-same}
 use Rattle.meaning.proofs.Relabel.{into-hit, into-miss, count-same, agree-same, Ends}
-use Rattle.meaning.proofs.Forest.{root-up, root-labels, link-before, link-after, history-link}
+use Rattle.meaning.proofs.Forest.{root-stop, root-up, root-labels, link-before, link-after, history-link}
 use Rattle.meaning.proofs.Exact.{Settled}
 use Rattle.joining.specs.State.{Logged, Due}
 
@@ -56,8 +56,15 @@ settled-move {rs} {P} {e} {e′} {m} {f} {f′} old q s = rw q (record {
   closed = s .closed;
 })
 
-module _ {rs : List Rec} {L : List ℕ} {places : ℕ} {f p g : ℕ → ℕ} {e : ℕ → Join} {wh : ℕ → ℕ} {n : ℕ} (G : Logged rs L places f p g e wh n) where
-  -- A tag that is its own label has no link.
+module _ {rs : List Rec} {L : List ℕ} {places : ℕ} {p g : ℕ → ℕ} {e : ℕ → Join} {wh : ℕ → ℕ} {n : ℕ} (G : Logged rs L places p g e wh n) where
+  -- The leaders are a labelling, the newest of the forest's.
+  abbrev f : ℕ → ℕ
+  f = root p g n
+
+  pub leaders : Labels f
+  leaders = root-labels p g 1000 n (G .history .links) n (omega arith) (G .history .room)
+
+  -- A tag that leads has no link, and one that has none leads.
   pub leads : (x : ℕ) → f x ≡ x → 1000 ≤ g x
   leads x q = go (G .history .links .age x)
     where
@@ -65,7 +72,10 @@ module _ {rs : List Rec} {L : List ℕ} {places : ℕ} {f p g : ℕ → ℕ} {e 
       go (inr h) = h
       go (inl h) =
           let up : root p g n x ≡ root p g n (p x) = root-up p g 1000 n (G .history .links) n (omega arith) (G .history .room) x h in
-          absurd (omega (arith, G .roots x, root-labels p g 1000 n (G .history .links) n (omega arith) (G .history .room) .low (p x), G .history .links .down x h))
+          absurd (omega (arith, leaders .low (p x), G .history .links .down x h))
+
+  pub unlinked-leads : (x : ℕ) → 1000 ≤ g x → f x ≡ x
+  unlinked-leads x h = root-stop p g 1000 n (G .history .links) n (omega arith) (G .history .room) x (omega (arith, G .history .room))
 
   module _ {N : ℕ} {j : Join} (lo hi : ℕ) (room : suc n ≤ 1000) (less : lo < hi) (own : f lo ≡ lo) (own′ : f hi ≡ hi) (ends : Ends f lo hi j) (d : Due N rs L f j) (some : 1 ≤ places) where
     e′ : ℕ → Join
@@ -79,12 +89,8 @@ module _ {rs : List Rec} {L : List ℕ} {places : ℕ} {f p g : ℕ → ℕ} {e 
     unfolding e′
     old a l = sym (put-miss n j e a (omega arith))
 
-    ends′ : Ends f lo hi j → Ends (root p g n) lo hi j
-    ends′ (inl h) = inl (G .roots (j .u) ∙ h .0, G .roots (j .v) ∙ h .1)
-    ends′ (inr h) = inr (G .roots (j .u) ∙ h .0, G .roots (j .v) ∙ h .1)
-
     joined : (x y : ℕ) → f x ≡ f y → Joined e n x y
-    joined x y q = G .history .then n (omega arith) .joins x y (G .roots x ∙ q ∙ sym (G .roots y))
+    joined x y q = G .history .then n (omega arith) .joins x y q
 
     justified′ : (a : ℕ) → a < suc n → Dec (a ≡ n) → Grounds rs (Joined e′ a) (e′ a .u) (e′ a .v) (e′ a .why)
     justified′ a l (yes q) = rw (q, new) (grounds-more (λ x y r. linked-same old (joined x y r)) (d .grounds))
@@ -112,13 +118,17 @@ module _ {rs : List Rec} {L : List ℕ} {places : ℕ} {f p g : ℕ → ℕ} {e 
         rw (age-same k l) (settled-move (λ a h. old a (omega arith))
         (fun-ext (λ x. link-before p g 1000 n (G .history .links) room lo hi less (leads lo own) (leads hi own′) (count (λ a. leb (wh a) k) n) m x)) (G .moments k l))
 
-    pub logged-join : Logged rs L places (λ x. into lo hi (f x)) (put hi lo p) (put hi n g) (put n j e) (put n places wh) (suc n)
+    -- The leaders after it, ..
+    pub lead-join : root (put hi lo p) (put hi n g) (suc n) ≡ (λ x. into lo hi (f x))
+    lead-join = fun-ext (λ x. link-after p g 1000 n (G .history .links) room lo hi less (leads lo own) (leads hi own′) x)
+
+    -- .. and the log.
+    pub logged-join : Logged rs L places (put hi lo p) (put hi n g) (put n j e) (put n places wh) (suc n)
     unfolding e′
     logged-join = record {
-      history = history-link e n p g 1000 (G .history) room j lo hi less (leads lo own) (leads hi own′) (ends′ ends);
+      history = history-link e n p g 1000 (G .history) room j lo hi less (leads lo own) (leads hi own′) ends;
       justified = λ a l o. justified′ a l (ℕ-discrete a n);
       within = within′;
-      roots = λ x. link-after p g 1000 n (G .history .links) room lo hi less (leads lo own) (leads hi own′) x ∙ ap (into lo hi) (G .roots x);
       made = λ a l. made′ a l (ℕ-discrete a n);
       order = λ a b l k. order′ a b l k (ℕ-discrete a n) (ℕ-discrete b n);
       moments = moment;

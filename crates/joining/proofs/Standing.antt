@@ -41,12 +41,12 @@ module _ {w w′ : List ℕ} (f : Within 17003 32768 w w′) (label : labelOf w�
   standing-same s = record {
     loaded = loaded-same frame (s .loaded);
     reach = s .reach;
-    labels = rw label (s .labels);
-    sound = rw (lefts frame, rights frame, results frame, label) (s .sound);
-    total = rw label (s .total);
-    own = rw label (s .own);
-    tops = record { above = rw (label, parent) (s .tops .above); below = rw (label, parent) (s .tops .below) };
-    log = rw (joins, lefts frame, rights frame, results frame, label, parent, age, when) (s .log);
+    sound = rw (lefts frame, rights frame, results frame, parent, age) (s .sound);
+    total = rw (parent, age) (s .total);
+    own = rw (parent, age) (s .own);
+    tops = rw (parent, age) (s .tops);
+    log = rw (joins, lefts frame, rights frame, results frame, parent, age, when) (s .log);
+    marks = rw (label, parent, age) (s .marks);
   }
 
 pub standing-frame : {t : Front} {w w′ : List ℕ} {n : ℕ} → Within 26003 32768 w w′ → Standing t w n → Standing t w′ n
@@ -55,7 +55,7 @@ standing-frame f = standing-same (within-wider 17003 32768 (omega arith) (omega 
 -- The labels of two applications with one key.
 module _ {t : Front} {w : List ℕ} {n : ℕ} (s : Standing t w n) where
   right-fits : (j : ℕ) → j < t .places → labelOf w (rightOf w (suc j)) < 65536
-  right-fits j l = omega (arith, s .labels .low (rightOf w (suc j)), row-right (s .loaded) j (omega (arith, s .reach)), s .loaded .few)
+  right-fits j l = omega (arith, s .marks .low (rightOf w (suc j)) (row-right (s .loaded) j (omega (arith, s .reach))), s .loaded .few)
 
   pub key-args : (j r : ℕ) → j < t .places → r < t .places → keyAt w r ≡ keyAt w j
       → (labelOf w (leftOf w (suc r)) ≡ labelOf w (leftOf w (suc j))) × (labelOf w (rightOf w (suc r)) ≡ labelOf w (rightOf w (suc j)))

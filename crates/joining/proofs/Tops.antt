@@ -1,4 +1,4 @@
--- The largest tag of each class stands where its leader's link will. No link is read there before, so the log does not change by it; and only the tags from the label up to there need to be relabelled.
+-- The largest tag of each class stands where its leader's link will, and how many it has where the age will. No link is read there before, so the log does not change by it; and only the tags from the leader up to there need to be relabelled.
 -- Assumes nothing.
 use Prim.Native.Nat.{ℕ, zero, suc, _+_, _-_, _≤_, _<_}
 use native.Mathlib.Omega.{arith}
@@ -24,81 +24,108 @@ use Rattle.labels.proofs.Views.{part-within, part-at}
 use Rattle.joining.specs.State.{Logged, Topped}
 use Rattle.joining.proofs.Joining.{leads}
 
--- A number where no link is changes no leader.
-module _ (p g : ℕ → ℕ) (x v a : ℕ) (top : 1000 ≤ g x) (low : a ≤ 1000) where
-  kept-in : (n y : ℕ) → rootIn (put x v p) g a n y ≡ rootIn p g a n y
+-- What stands for a tag that leads changes no leader, as long as its age is none.
+module _ (p g : ℕ → ℕ) (x v u a : ℕ) (old : 1000 ≤ g x) (new : 1000 ≤ u) (low : a ≤ 1000) where
+  kept-in : (n y : ℕ) → rootIn (put x v p) (put x u g) a n y ≡ rootIn p g a n y
   kept-in zero y = refl
   kept-in (suc n) y = elim (ℕ-discrete y x) [
-    | yes e ↦ rw (e, le-ltb (g x) a (omega arith))
-    | no d ↦ rw (put-miss x v p y d, kept-in n (p y))
+    | yes e ↦ rw (e, put-hit x u g, le-ltb (g x) a (omega arith), le-ltb u a (omega arith))
+    | no d ↦ rw (put-miss x v p y d, put-miss x u g y d, kept-in n (p y))
   ]
 
-  root-kept : root (put x v p) g a ≡ root p g a
+  root-kept : root (put x v p) (put x u g) a ≡ root p g a
   root-kept = fun-ext (λ y. kept-in y y)
 
-pub logged-top : {rs : List Rec} {L : List ℕ} {places : ℕ} {f p g : ℕ → ℕ} {e : ℕ → Join} {wh : ℕ → ℕ} {n : ℕ} → Logged rs L places f p g e wh n → (x v : ℕ) → f x ≡ x → Logged rs L places f (put x v p) g e wh n
-logged-top {rs} {L} {places} {f} {p} {g} {e} {wh} {n} G x v own = record {
-  history = record {
-    links = record {
-      down = λ y l. rw (miss y l) (G .history .links .down y l);
-      rise = λ y l. rw (miss y l) (G .history .links .rise y l);
-      once = G .history .links .once;
-      age = G .history .links .age;
-    };
-    room = G .history .room;
-    then = λ a l. rw (root-kept p g x v a high (omega (arith, G .history .room))) (G .history .then a l);
-  };
-  justified = G .justified;
-  within = G .within;
-  roots = λ y. kept-in p g x v n high (G .history .room) y y ∙ G .roots y;
-  made = G .made;
-  order = G .order;
-  moments = λ k l. rw (root-kept p g x v (count (λ a. leb (wh a) k) n) high (omega (arith, count-low (λ a. leb (wh a) k) n, G .history .room))) (G .moments k l);
-}
-  where
-    high : 1000 ≤ g x
-    high = leads G x own
+module _ {rs : List Rec} {L : List ℕ} {places : ℕ} {p g : ℕ → ℕ} {e : ℕ → Join} {wh : ℕ → ℕ} {n : ℕ} (G : Logged rs L places p g e wh n) (x v u : ℕ) (own : root p g n x ≡ x) (heavy : 1000 ≤ u) where
+  high : 1000 ≤ g x
+  high = leads G x own
 
-    miss : (y : ℕ) → g y < n → put x v p y ≡ p y
-    miss y l = put-miss x v p y (λ q. let z : g y ≡ g x = ap g q in omega (arith, high, G .history .room))
+  kept : (a : ℕ) → a ≤ n → root (put x v p) (put x u g) a ≡ root p g a
+  kept a l = root-kept p g x v u a high heavy (omega (arith, G .history .room))
+
+  pub lead-top : root (put x v p) (put x u g) n ≡ root p g n
+  lead-top = kept n (omega arith)
+
+  -- One with a link is another.
+  elsewhere : (y : ℕ) → put x u g y < n → y ≢ x
+  elsewhere y l q = let z : put x u g y ≡ u = rw q (put-hit x u g) in omega (arith, G .history .room)
+
+  age : (y : ℕ) → y ≢ x → put x u g y ≡ g y
+  age = put-miss x u g
+
+  older : (y : ℕ) → put x u g y < n → g y < n
+  older y l = let z = age y (elsewhere y l) in omega arith
+
+  rise : (y : ℕ) → g y < n → Dec (p y ≡ x) → g y < put x u g (p y)
+  rise y l (yes q) = rw (q, put-hit x u g) (omega (arith, G .history .room))
+  rise y l (no q) = rw (put-miss x u g (p y) q) (G .history .links .rise y l)
+
+  once : (y z : ℕ) → put x u g y < n → put x u g y ≡ put x u g z → y ≡ z
+  once y z l q =
+      let a = age y (elsewhere y l) in
+      let b = age z (elsewhere z (omega arith)) in
+      G .history .links .once y z (older y l) (omega arith)
+
+  ages : (y : ℕ) → Dec (y ≡ x) → (put x u g y < n) ⊎ (1000 ≤ put x u g y)
+  ages y (yes q) = rw (q, put-hit x u g) (inr heavy)
+  ages y (no q) = rw (put-miss x u g y q) (G .history .links .age y)
+
+  pub logged-top : Logged rs L places (put x v p) (put x u g) e wh n
+  logged-top = record {
+    history = record {
+      links = record {
+        down = λ y l. rw (put-miss x v p y (elsewhere y l)) (G .history .links .down y (older y l));
+        rise = λ y l. rw (put-miss x v p y (elsewhere y l), age y (elsewhere y l)) (rise y (older y l) (ℕ-discrete (p y) x));
+        once = once;
+        age = λ y. ages y (ℕ-discrete y x);
+      };
+      room = G .history .room;
+      then = λ a l. rw (kept a l) (G .history .then a l);
+    };
+    justified = G .justified;
+    within = G .within;
+    made = G .made;
+    order = G .order;
+    moments = λ k l. rw (kept (count (λ a. leb (wh a) k) n) (count-low (λ a. leb (wh a) k) n)) (G .moments k l);
+  }
 
 -- The tops after a join.
-pub tops-join : {N : ℕ} {w w′ : List ℕ} (lo hi m : ℕ) → Topped N w → lo < hi → hi < N → labelOf w lo ≡ lo → labelOf w hi ≡ hi → labelOf w′ ≡ (λ x. into lo hi (labelOf w x)) → parentOf w′ ≡ put lo m (put hi lo (parentOf w))
-    → parentOf w lo ≤ m → parentOf w hi ≤ m → (m ≡ parentOf w lo) ⊎ (m ≡ parentOf w hi) → Topped N w′
-tops-join {N} {w} {w′} lo hi m t less high of-lo of-hi el ep a b c = record { above = λ x l. above x l (ℕ-discrete (labelOf w x) hi) (ℕ-discrete (labelOf w x) lo); below = λ x l e. below x l e (ℕ-discrete x hi) (ℕ-discrete x lo) }
+pub tops-join : {N : ℕ} {f p : ℕ → ℕ} (lo hi m : ℕ) → Topped N f p → lo < hi → hi < N → f lo ≡ lo → f hi ≡ hi
+    → p lo ≤ m → p hi ≤ m → (m ≡ p lo) ⊎ (m ≡ p hi) → Topped N (λ x. into lo hi (f x)) (put lo m (put hi lo p))
+tops-join {N} {f} {p} lo hi m t less high of-lo of-hi a b c = record { above = λ x l. above x l (ℕ-discrete (f x) hi) (ℕ-discrete (f x) lo); below = λ x l e. below x l e (ℕ-discrete x hi) (ℕ-discrete x lo) }
   where
-    at-lo : put lo m (put hi lo (parentOf w)) lo ≡ m
-    at-lo = put-hit lo m (put hi lo (parentOf w))
+    at-lo : put lo m (put hi lo p) lo ≡ m
+    at-lo = put-hit lo m (put hi lo p)
 
-    at-else : (y : ℕ) → y ≢ lo → y ≢ hi → put lo m (put hi lo (parentOf w)) y ≡ parentOf w y
-    at-else y d e = put-miss lo m (put hi lo (parentOf w)) y d ∙ put-miss hi lo (parentOf w) y e
+    at-else : (y : ℕ) → y ≢ lo → y ≢ hi → put lo m (put hi lo p) y ≡ p y
+    at-else y d e = put-miss lo m (put hi lo p) y d ∙ put-miss hi lo p y e
 
-    above : (x : ℕ) → x < N → Dec (labelOf w x ≡ hi) → Dec (labelOf w x ≡ lo) → x ≤ parentOf w′ (labelOf w′ x)
-    above x l (yes e) d = let z : x ≤ parentOf w hi = rw e at (t .above x l) in rw (el, ep, e, into-hit lo hi, at-lo) (omega arith)
-    above x l (no e) (yes d) = let z : x ≤ parentOf w lo = rw d at (t .above x l) in rw (el, ep, into-miss lo hi (labelOf w x) e, d, at-lo) (omega arith)
-    above x l (no e) (no d) = rw (el, ep, into-miss lo hi (labelOf w x) e, at-else (labelOf w x) d e) (t .above x l)
+    above : (x : ℕ) → x < N → Dec (f x ≡ hi) → Dec (f x ≡ lo) → x ≤ put lo m (put hi lo p) (into lo hi (f x))
+    above x l (yes e) d = let z : x ≤ p hi = rw e at (t .above x l) in rw (e, into-hit lo hi, at-lo) (omega arith)
+    above x l (no e) (yes d) = let z : x ≤ p lo = rw d at (t .above x l) in rw (into-miss lo hi (f x) e, d, at-lo) (omega arith)
+    above x l (no e) (no d) = rw (into-miss lo hi (f x) e, at-else (f x) d e) (t .above x l)
 
-    few : (m ≡ parentOf w lo) ⊎ (m ≡ parentOf w hi) → m < N
+    few : (m ≡ p lo) ⊎ (m ≡ p hi) → m < N
     few (inl q) = rw q (t .below lo (omega arith) of-lo)
     few (inr q) = rw q (t .below hi high of-hi)
 
-    same : (x : ℕ) → labelOf w′ x ≡ x → x ≢ lo → x ≢ hi → labelOf w x ≡ x
-    same x q d e = elim (ℕ-discrete (labelOf w x) hi) [
-      | yes z ↦ absurd (d (sym (rw (z, into-hit lo hi) at (rw el at q))))
-      | no z ↦ rw (into-miss lo hi (labelOf w x) z) at (rw el at q)
+    same : (x : ℕ) → into lo hi (f x) ≡ x → x ≢ lo → f x ≡ x
+    same x q d = elim (ℕ-discrete (f x) hi) [
+      | yes z ↦ absurd (d (sym (rw (z, into-hit lo hi) at q)))
+      | no z ↦ rw (into-miss lo hi (f x) z) at q
     ]
 
-    below : (x : ℕ) → x < N → labelOf w′ x ≡ x → Dec (x ≡ hi) → Dec (x ≡ lo) → parentOf w′ x < N
-    below x l q d (yes e) = rw (ep, e, at-lo) (few c)
+    below : (x : ℕ) → x < N → into lo hi (f x) ≡ x → Dec (x ≡ hi) → Dec (x ≡ lo) → put lo m (put hi lo p) x < N
+    below x l q d (yes e) = rw (e, at-lo) (few c)
     below x l q (yes d) (no e) = absurd (omega (arith, clash))
       where
         clash : lo ≡ hi
-        clash = sym (into-hit lo hi) ∙ ap (into lo hi) (sym of-hi) ∙ (rw el at (rw d at q))
-    below x l q (no d) (no e) = rw (ep, at-else x e d) (t .below x l (same x q e d))
+        clash = sym (into-hit lo hi) ∙ ap (into lo hi) (sym of-hi) ∙ (rw d at q)
+    below x l q (no d) (no e) = rw (at-else x e d) (t .below x l (same x q e))
 
--- Relabelling the part from the label to the top is relabelling all labels.
-module _ (w w′ v : List ℕ) (lo hi top at n : ℕ) (long : 32768 ≤ length w) (low : hi ≤ top) (few : top < 1000) (ea : at ≡ 21003 + hi) (en : at + n ≡ 21003 + top + 1)
-    (between : (x : ℕ) → labelOf w x ≡ hi → (hi ≤ x) × (x ≤ top)) (e : w′ ≡ take at w ++ (v ++ drop n (drop at w))) (q : v ≡ map (into lo hi) (take n (drop at w))) where
+-- Relabelling the part that has all tags of a label is relabelling all labels.
+module _ (w w′ v : List ℕ) (lo hi from top at n : ℕ) (long : 32768 ≤ length w) (low : from ≤ top) (few : top < 1000) (ea : at ≡ 21003 + from) (en : at + n ≡ 21003 + top + 1)
+    (between : (x : ℕ) → labelOf w x ≡ hi → (from ≤ x) × (x ≤ top)) (e : w′ ≡ take at w ++ (v ++ drop n (drop at w))) (q : v ≡ map (into lo hi) (take n (drop at w))) where
   size : length v ≡ n
   size = rw q (length-map (take n (drop at w)) (into lo hi) ∙ length-take-le n (drop at w) (rw length-drop (omega arith)))
 
@@ -108,26 +135,26 @@ module _ (w w′ v : List ℕ) (lo hi top at n : ℕ) (long : 32768 ≤ length w
   old : (y : ℕ) → y < n → getD (take n (drop at w)) y 0 ≡ getD w (at + y) 0
   old y l = getD-take n (drop at w) y 0 l ∙ getD-drop at w y 0
 
-  inside : (x : ℕ) → hi ≤ x → x ≤ top → labelOf w′ x ≡ into lo hi (labelOf w x)
+  inside : (x : ℕ) → from ≤ x → x ≤ top → labelOf w′ x ≡ into lo hi (labelOf w x)
   inside x a b =
-      let z : 21003 + x ≡ at + (x - hi) = omega arith in
-      let l : x - hi < n = omega arith in
-      rw (seen-at 21003 1000 (λ x. x) w′ x (omega arith), seen-at 21003 1000 (λ x. x) w x (omega arith), z, e) (part-at at n w v (omega arith) size (x - hi) l
-      ∙ getD-any v (x - hi) 0 (into lo hi 0) (omega (arith, size)) ∙ ap (λ (u : List ℕ). getD u (x - hi) (into lo hi 0)) q ∙ List·getD-map (into lo hi) (take n (drop at w)) (x - hi) 0 ∙ ap (into lo hi) (old (x - hi) l))
+      let z : 21003 + x ≡ at + (x - from) = omega arith in
+      let l : x - from < n = omega arith in
+      rw (seen-at 21003 1000 (λ x. x) w′ x (omega arith), seen-at 21003 1000 (λ x. x) w x (omega arith), z, e) (part-at at n w v (omega arith) size (x - from) l
+      ∙ getD-any v (x - from) 0 (into lo hi 0) (omega (arith, size)) ∙ ap (λ (u : List ℕ). getD u (x - from) (into lo hi 0)) q ∙ List·getD-map (into lo hi) (take n (drop at w)) (x - from) 0 ∙ ap (into lo hi) (old (x - from) l))
 
   -- Other tags have another label.
   other : (x : ℕ) → labelOf w′ x ≡ labelOf w x → (labelOf w x ≢ hi) → labelOf w′ x ≡ into lo hi (labelOf w x)
   other x h d = h ∙ sym (into-miss lo hi (labelOf w x) d)
 
-  outside : (x : ℕ) → (x < hi) ⊎ (top < x) → Dec (x < 1000) → labelOf w′ x ≡ labelOf w x
+  outside : (x : ℕ) → (x < from) ⊎ (top < x) → Dec (x < 1000) → labelOf w′ x ≡ labelOf w x
   outside x (inl h) (yes l) = rw (seen-at 21003 1000 (λ x. x) w′ x l, seen-at 21003 1000 (λ x. x) w x l) (frame .same (21003 + x) (inl (omega arith)))
   outside x (inr h) (yes l) = rw (seen-at 21003 1000 (λ x. x) w′ x l, seen-at 21003 1000 (λ x. x) w x l) (frame .same (21003 + x) (inr (omega arith)))
   outside x h (no l) = rw (seen-past 21003 1000 (λ x. x) w′ x (omega arith), seen-past 21003 1000 (λ x. x) w x (omega arith))
 
-  go : (x : ℕ) → Dec (x < hi) → Dec (top < x) → labelOf w′ x ≡ into lo hi (labelOf w x)
+  go : (x : ℕ) → Dec (x < from) → Dec (top < x) → labelOf w′ x ≡ into lo hi (labelOf w x)
   go x (yes h) d = other x (outside x (inl h) (decLt x 1000)) (λ z. omega (arith, between x z))
   go x (no h) (yes d) = other x (outside x (inr d) (decLt x 1000)) (λ z. omega (arith, between x z))
   go x (no h) (no d) = inside x (omega arith) (omega arith)
 
   pub renamed-part : Relabelled w w′ lo hi
-  renamed-part = record { frame = within-wider 21003 22003 (omega arith) (omega arith) frame; labels = fun-ext (λ x. go x (decLt x hi) (decLt top x)) }
+  renamed-part = record { frame = within-wider 21003 22003 (omega arith) (omega arith) frame; labels = fun-ext (λ x. go x (decLt x from) (decLt top x)) }

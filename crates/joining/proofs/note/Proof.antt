@@ -8,7 +8,7 @@ use Rattle.joining.proofs.note.Tie as tie
 use Rattle.joining.proofs.Logging.{noted-both}
 
 put-link-requires : tie.Need-put-link-requires
-put-link-requires c κs = c .before .before .pre
+put-link-requires c κs = let s = c .before .before in (s .pre .0, s .pre .1, omega (arith, s .pre .2))
 
 put-join-requires : tie.Need-put-join-requires
 put-join-requires c κs =

@@ -9,11 +9,11 @@ use Rattle.joining.proofs.rename.Statement.{statement}
 use Rattle.joining.proofs.rename.Tie as tie
 use Rattle.joining.proofs.Tops.{renamed-part}
 
-cast-from : tie.Need-cast-from
-cast-from c = search needs
+cast-start : tie.Need-cast-start
+cast-start c = search needs
 
-add-from : tie.Need-add-from
-add-from c = let s = c .before .before in record { fits = omega (arith, s .pre .1, s .pre .2) }
+add-start : tie.Need-add-start
+add-start c = let s = c .before .before in record { fits = omega (arith, s .pre .1, s .pre .2) }
 
 cast-end : tie.Need-cast-end
 cast-end c = search needs
@@ -45,15 +45,15 @@ same-length c = search needs
 returns : tie.Need-returns
 returns c =
     let s = c .before .before .before .before .before .before .before in
-    let at = 21003 + s .args .hi .0 in
-    renamed-part (now (s .args .work)) _ (c .before .before .relabel .last .0) (s .args .lo .0) (s .args .hi .0) (s .args .top .0) at (21003 + s .args .top .0 + 1 - at) (s .pre .0) (s .pre .1) (s .pre .2) refl (omega (arith, s .pre .1)) (s .pre .3) refl (c .before .before .relabel .ensures)
+    let at = 21003 + s .args .from .0 in
+    renamed-part (now (s .args .work)) _ (c .before .before .relabel .last .0) (s .args .kept .0) (s .args .gone .0) (s .args .from .0) (s .args .top .0) at (21003 + s .args .top .0 + 1 - at) (s .pre .0) (s .pre .1) (s .pre .2) refl (omega (arith, s .pre .1)) (s .pre .3) refl (c .before .before .relabel .ensures)
 
 pub rename-spec : {M : Type 1} → statement M
 rename-spec =
     tie.close
     (tie.spec
-    cast-from
-    add-from
+    cast-start
+    add-start
     cast-end
     add-end
     add-relabel
