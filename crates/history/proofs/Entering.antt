@@ -69,10 +69,21 @@ module _ (w : List ℕ) (long : 32768 ≤ length w) (x i p : ℕ) (small : x < 1
   pub stored-as : (s : Bool) (w′ : List ℕ) (a q : ℕ) → a ≡ x → q ≡ p → w′ ≡ set (set w (cond s 22003 17003 + i) q) (cond s 31764 30764 + a) (i + 1) → Stored s x i p w w′
   stored-as s w′ a q ea eq e = stored s w′ (rw (eq, ea) at e)
 
+-- The place of a record that comes in.
+pub next-low : {N len i : ℕ} {w : List ℕ} {n : ℕ} → Between N len i w n → i < len → i < 4000
+next-low b low = omega (arith, b .standing .loaded .most)
+
+-- .. and its tags.
+pub next-left : {N len i : ℕ} {w : List ℕ} {n : ℕ} → Between N len i w n → i < len → leftOf w (suc i) < 1000
+next-left {i = i} b low = omega (arith, row-left (b .standing .loaded) i low, b .standing .loaded .few)
+
+pub next-right : {N len i : ℕ} {w : List ℕ} {n : ℕ} → Between N len i w n → i < len → rightOf w (suc i) < 1000
+next-right {i = i} b low = omega (arith, row-right (b .standing .loaded) i low, b .standing .loaded .few)
+
 -- An application comes in.
 module _ {N len i : ℕ} {w : List ℕ} {n : ℕ} (b : Between N len i w n) (low : i < len) (app : eqnAt w i ≡ false) where
   most : i < 4000
-  most = omega (arith, low, b .standing .loaded .most)
+  most = next-low b low
 
   pub entered : {w₁ w₂ w₃ : List ℕ} → Stored false (leftOf w (suc i)) i (useOf false w (leftOf w (suc i))) w w₁ → Stored true (rightOf w (suc i)) i (useOf true w₁ (rightOf w (suc i))) w₁ w₂ → w₃ ≡ set w₂ (26003 + i) (0 + 4002)
       → Within 12003 32768 w w₃ × Open (front N len (suc i)) w₃ n (suc i)
@@ -140,7 +151,7 @@ equate-due {i = i} s x l q a b ea eb d = record {
 -- An equation comes in.
 module _ {N len i : ℕ} {w : List ℕ} {n : ℕ} (b : Between N len i w n) (low : i < len) (eqn : eqnAt w i ≡ true) (w′ : List ℕ) (e : w′ ≡ set w (26003 + i) (0 + 1)) where
   most-eqn : i < 4000
-  most-eqn = omega (arith, low, b .standing .loaded .most)
+  most-eqn = next-low b low
 
   pub equate-chain : Within 26003 30764 w w′
   equate-chain = store-frame w w′ i (0 + 1) (b .standing .loaded .long) most-eqn e
@@ -183,12 +194,13 @@ module _ {N len i : ℕ} {w : List ℕ} {n : ℕ} (b : Between N len i w n) (low
     level = below (λ j. eqnAt w′ j ≡ true → labelOf w′ (leftOf w′ (suc j)) ≡ labelOf w′ (rightOf w′ (suc j))) i level (λ _. q);
   }
 
-  pub equate-joining : (x y : ℕ) → x ≡ labelOf w′ (leftOf w′ (suc i)) → y ≡ labelOf w′ (rightOf w′ (suc i)) → x ≢ y → Joining (front N len (suc i)) w′ n 0 (suc i) 0 x y
-  equate-joining x y = equate-due equate-standing equate-indexed low same-eqn x y
+  -- Its number, and how many are in then, as they were handed on.
+  pub equate-joining : (m k x y : ℕ) → m ≡ suc i → k ≡ suc i → x ≡ labelOf w′ (leftOf w′ (suc i)) → y ≡ labelOf w′ (rightOf w′ (suc i)) → x ≢ y → Joining (front N len m) w′ n 0 k 0 x y
+  equate-joining m k x y em ek ex ey d = rw (em, ek) (equate-due equate-standing equate-indexed low same-eqn x y ex ey d)
 
-  pub equate-joined : {x y first : ℕ} {w″ : List ℕ} → x ≡ labelOf w′ (leftOf w′ (suc i)) → y ≡ labelOf w′ (rightOf w′ (suc i)) → Joined (front N len (suc i)) w′ n x y w″ first
+  pub equate-joined : {m x y first : ℕ} {w″ : List ℕ} → m ≡ suc i → x ≡ labelOf w′ (leftOf w′ (suc i)) → y ≡ labelOf w′ (rightOf w′ (suc i)) → Joined (front N len m) w′ n x y w″ first
       → Within 12003 32768 w w″ × Open (front N len (suc i)) w″ (n + 1) first × (n ≤ n + 1)
-  equate-joined {x} {y} {first} {w″} p q J = (
+  equate-joined {m} {x} {y} {first} {w″} em p q J₀ = let J : Joined (front N len (suc i)) w′ n x y w″ first = rw em at J₀ in (
     within-trans (wide equate-chain) (J .frame),
     rw add-one (record {
       standing = J .standing;

@@ -1,7 +1,6 @@
 -- `equate` meets its contract. Where the two tags have one label the equation holds already; otherwise the join is due, and
 -- it holds after that.
 -- Assumes nothing.
-use borrow.Author.Needs.{needs}
 use mathlib.Core.Path.{_≡_, sym, ap, _∙_}
 use Prim.Native.Nat.{ℕ, suc, _<_, _≤_}
 use native.Mathlib.Omega.{arith}
@@ -12,11 +11,11 @@ use Rattle.table.specs.Map.{leftOf, rightOf, labelOf, Within}
 use Rattle.history.proofs.equate.Statement.{statement}
 use Rattle.history.proofs.equate.Tie as tie
 use Rattle.labels.proofs.Views.{lefts, rights}
-use Rattle.index.proofs.Views.{wide, row-left, row-right}
-use Rattle.history.proofs.Entering.{equate-chain, equate-stay, equate-joining, equate-joined}
+use Rattle.index.proofs.Views.{wide}
+use Rattle.history.proofs.Entering.{next-low, next-left, next-right, equate-chain, equate-stay, equate-joining, equate-joined}
 
 low : (s : tie.Start) → s .args .i < 4000
-low s = omega (arith, s .pre .1, s .pre .0 .standing .loaded .most)
+low s = next-low (s .pre .0) (s .pre .1)
 
 number-requires : tie.Need-number-requires
 number-requires c κs = low (c .before)
@@ -53,13 +52,13 @@ label-requires : tie.Need-label-requires
 label-requires c κs =
     let p = c .before .before .before in
     let s = begun p in
-    (long p, omega (arith, left-is (p .before .before), row-left (s .pre .0 .standing .loaded) (s .args .i) (s .pre .1), s .pre .0 .standing .loaded .few))
+    (long p, omega (arith, left-is (p .before .before), next-left (s .pre .0) (s .pre .1)))
 
 label-requires-2 : tie.Need-label-requires-2
 label-requires-2 c κs =
     let p = c .before .before .before .before .before in
     let s = begun p in
-    (long p, omega (arith, right-is (p .before .before), row-right (s .pre .0 .standing .loaded) (s .args .i) (s .pre .1), s .pre .0 .standing .loaded .few))
+    (long p, omega (arith, right-is (p .before .before), next-right (s .pre .0) (s .pre .1)))
 
 -- Their labels.
 abbrev put-of : tie.After-label2 → tie.After-put-chain
@@ -76,7 +75,7 @@ two a =
     a .label2 .ensures ∙ ap (labelOf w) (right-is (put-of a .before .before) ∙ sym (ap (λ (f : ℕ → ℕ). f (suc (begun (put-of a) .args .i))) (rights (wide (chained (put-of a))))))
 
 same-length : tie.Need-same-length
-same-length c = search needs
+same-length c = put-of (c .before .before .before) .put-chain .kept .0
 
 returns : tie.Need-returns
 returns c =
@@ -93,13 +92,15 @@ join-requires c κs =
     let a = c .before .before .before .before in
     let p = put-of a in
     let s = begun p in
-    rw (p .before .before .before .before .before .before .number .ensures, add-one) (equate-joining (s .pre .0) (s .pre .1) (s .pre .2) _ (p .put-chain .ensures) _ _ (one a) (two a) (c .before .if1 .left))
+    equate-joining (s .pre .0) (s .pre .1) (s .pre .2) _ (p .put-chain .ensures) _ _ _ _ (add-one (s .args .i)) (p .before .before .before .before .before .before .number .ensures) (one a) (two a) (c .before .if1 .left)
 
 add-t25-2 : tie.Need-add-t25-2
 add-t25-2 c = let s = begun (put-of (c .before .before .before .before .before .before .before)) in record { fits = omega (arith, s .pre .0 .standing .total, s .pre .0 .standing .loaded .few) }
 
 same-length-2 : tie.Need-same-length-2
-same-length-2 c = search needs
+same-length-2 c =
+    let j = c .before .before in
+    j .join .kept .0 ∙ put-of (j .before .before .before .before .before) .put-chain .kept .0
 
 returns-2 : tie.Need-returns-2
 returns-2 c =
@@ -107,7 +108,7 @@ returns-2 c =
     let a = j .before .before .before .before .before in
     let p = put-of a in
     let s = begun p in
-    equate-joined (s .pre .0) (s .pre .1) (s .pre .2) _ (p .put-chain .ensures) (one a) (two a) (rw add-one at (j .join .ensures))
+    equate-joined (s .pre .0) (s .pre .1) (s .pre .2) _ (p .put-chain .ensures) (add-one (s .args .i)) (one a) (two a) (j .join .ensures)
 
 pub equate-spec : {M : Type 1} → statement M
 equate-spec =
