@@ -1,6 +1,6 @@
 -- A record comes in: an application waits, and its arguments' lists know it; an equation is joined unless its labels are equal.
 -- Assumes nothing.
-use Prim.Native.Nat.{ℕ, suc, _+_, _≤_, _<_}
+use Prim.Native.Nat.{ℕ, suc, _+_, _*_, _/_, _%_, _≤_, _<_}
 use native.Mathlib.Omega.{arith}
 use native.Mathlib.Numerals.{add-one}
 use mathlib.Core.Path.{_≡_, refl, sym, ap, _∙_, fun-ext}
@@ -14,7 +14,7 @@ use Rattle.table.specs.Map.{leftOf, rightOf, labelOf, useOf, moreOf, stateOf, c
 use Rattle.table.proofs.Frame.{seen-in, seen-out, within-trans, within-wider, within-set, gather-in}
 use Rattle.labels.proofs.Chain.{below}
 use Rattle.labels.proofs.Views.{lefts, rights}
-use Rattle.index.specs.State.{eqnAt, Filing, Used, Queued, Indexed}
+use Rattle.index.specs.State.{eqnAt, keyAt, Filing, Used, Queued, Indexed}
 use Rattle.index.proofs.Filing.{more, uses-eq, uses-app}
 use Rattle.index.proofs.Waiting.{queue-more, queue-put-app}
 use Rattle.index.proofs.Views.{row-left, row-right, eqn-at, eqns, tags, keys-same, ress-same, wide, labels, keys, ress, uses, mores, store-frame, store-buckets, link-chains, link-waits, wait-chains, wait-waits}
@@ -148,6 +148,9 @@ equate-due {i = i} s x l q a b ea eb d = record {
   ends = inl (sym ea, sym eb);
 }
 
+halves : (x a b : ℕ) → x ≡ a * 65536 + b → a < 1000 → b < 1000 → (x / 65536 ≡ a) × (x % 65536 ≡ b) × (x / 65536 < 65536)
+halves x a b e l k = (omega arith, omega arith, omega arith)
+
 -- An equation comes in.
 module _ {N len i : ℕ} {w : List ℕ} {n : ℕ} (b : Between N len i w n) (low : i < len) (eqn : eqnAt w i ≡ true) (w′ : List ℕ) (e : w′ ≡ set w (26003 + i) (0 + 1)) where
   most-eqn : i < 4000
@@ -161,6 +164,14 @@ module _ {N len i : ℕ} {w : List ℕ} {n : ℕ} (b : Between N len i w n) (low
 
   pub equate-standing : Standing (front N len (suc i)) w′ n
   equate-standing = standing-same narrow (labels equate-chain) (standing-next b low)
+
+  -- Its labels, as the two halves of one number.
+  pub equate-key : (x : ℕ) → x ≡ keyAt w′ i → (x / 65536 ≡ labelOf w′ (leftOf w′ (suc i))) × (x % 65536 ≡ labelOf w′ (rightOf w′ (suc i))) × (x / 65536 < 65536)
+  equate-key x e =
+      let s = equate-standing in
+      let a : labelOf w′ (leftOf w′ (suc i)) < 1000 = omega (arith, s .labels .low (leftOf w′ (suc i)), row-left (s .loaded) i low, s .loaded .few) in
+      let b : labelOf w′ (rightOf w′ (suc i)) < 1000 = omega (arith, s .labels .low (rightOf w′ (suc i)), row-right (s .loaded) i low, s .loaded .few) in
+      halves x (labelOf w′ (leftOf w′ (suc i))) (labelOf w′ (rightOf w′ (suc i))) e a b
 
   chains : chainOf w′ ≡ put i 1 (chainOf w)
   chains = link-chains w w′ i 0 (b .standing .loaded .long) most-eqn (omega arith) e
