@@ -15,6 +15,7 @@ ghost use Rattle.history.specs.Closing.{Closing};
 ghost use Rattle.history.specs.State.{front, Between, Admitted, Unlinked, Begun};
 use index::Front;
 use meaning::RecordNo;
+use meaning::Tag;
 use settling::Progress;
 
 // What a run of the closure made: its joins, and the records that made none.
@@ -38,17 +39,16 @@ fn enter(work: &mut [u16], size: usize, len: usize, i: usize, joins: usize)
     table::put_wait(work, i, 0);
 }
 
-// The equation at place i comes in: its two tags are joined unless they have one label.
+// The equation at place i comes in: its two tags are joined unless they have one label. Both labels are read as one number.
 fn equate(work: &mut [u16], size: usize, len: usize, i: usize, joins: usize) -> Progress
     requires { ⌜ Between size len i (now work) joins × (i < len) × (eqnAt (now work) i ≡ true) ⌝ }
     ensures { λ r. ⌜ Within 12003 32768 (now (work .entry)) (now (work .exit)) × Open (front size len (suc i)) (now (work .exit)) (r .joins) (r .first) × (joins ≤ r .joins) ⌝ }
 {
     let r = index::number(i);
-    let s = table::left(work, r);
-    let t = table::right(work, r);
     table::put_chain(work, i, 0);
-    let a = table::label(work, s);
-    let b = table::label(work, t);
+    let x = labels::key(work, r);
+    let a = Tag((x / 65536) as u16);
+    let b = Tag((x % 65536) as u16);
     if a.0 == b.0 {
         return Progress {
             joins: joins,

@@ -11,7 +11,7 @@ use Rattle.meaning.specs.Joins.{cong, applications}
 use Rattle.table.specs.Map.{leftOf, rightOf, resultOf, labelOf, chainOf, joinBy}
 use Rattle.table.proofs.Frame.{gather-in}
 use Rattle.index.specs.declared.Front.{Front}
-use Rattle.index.specs.State.{eqnAt, keyAt}
+use Rattle.index.specs.State.{eqnAt, keyAt, resAt}
 use Rattle.index.proofs.Filing.{found-hit}
 use Rattle.index.proofs.Waiting.{queue-head}
 use Rattle.joining.specs.State.{Standing, Joining}
@@ -32,9 +32,6 @@ module _ {t : Front} {w : List ℕ} {p j n : ℕ} (u : Unifying t w p j n) where
 
   pub unify-app : eqnAt w (p - 1) ≡ false
   unify-app = hit .2
-
-  from : suc (p - 1) ≡ p
-  from = omega (arith, u .hit)
 
   abbrev s : Standing t w n
   s = u .state .standing
@@ -62,5 +59,6 @@ module _ {t : Front} {w : List ℕ} {p j n : ℕ} (u : Unifying t w p j n) where
     ends = rw pair (inl (sym ea, sym eb));
   }
 
-  pub unify-due : (a b : ℕ) → a ≡ labelOf w (resultOf w p) → b ≡ labelOf w (resultOf w (suc j)) → a ≢ b → Joining t w n (suc j) p (suc j) a b
-  unify-due a b ea eb d = rw from at (due a b (rw from ea) eb d)
+  -- The numbers of the two records, and of the first that waits, as they were handed on.
+  pub unify-due : (f k k′ a b : ℕ) → f ≡ suc j → k ≡ suc (p - 1) → k′ ≡ suc j → a ≡ resAt w (p - 1) → b ≡ resAt w j → a ≢ b → Joining t w n f k k′ a b
+  unify-due f k k′ a b ef ek ek′ ea eb d = rw (ef, ek, ek′) (due a b ea eb d)

@@ -10,7 +10,7 @@ use mathlib.Core.Bool.{false}
 use mathlib.Core.List.{List}
 use Rattle.meaning.specs.Joins.{put}
 use Rattle.meaning.proofs.Log.{put-hit, put-miss}
-use Rattle.table.specs.Map.{resultOf, labelOf, chainOf, waitOf, bucketOf, Within}
+use Rattle.table.specs.Map.{chainOf, waitOf, bucketOf, Within}
 use Rattle.table.proofs.Frame.{within-wider}
 use Rattle.labels.specs.Chain.{seekTo, hits, look}
 use Rattle.index.specs.declared.Front.{Front}
@@ -63,7 +63,7 @@ module _ (j v : ℕ) (ch ch′ : ℕ → ℕ) (e : ch′ ≡ put j (suc v) ch) w
 
 module _ {t : Front} {w : List ℕ} {p j n : ℕ} (u : Unifying t w p j n) where
   -- What was found has the result's label.
-  pub unify-stay : (w′ : List ℕ) (next : ℕ) → labelOf w (resultOf w p) ≡ labelOf w (resultOf w (suc j)) → next ≡ waitOf w j → Within 26003 30764 w w′ → chainOf w′ ≡ put j 1 (chainOf w)
+  pub unify-stay : (w′ : List ℕ) (next : ℕ) → resAt w (p - 1) ≡ resAt w j → next ≡ waitOf w j → Within 26003 30764 w w′ → chainOf w′ ≡ put j 1 (chainOf w)
       → ((r : ℕ) → r ≢ j → waitOf w′ r ≡ waitOf w r) → bucketOf w′ ≡ bucketOf w → Gone t w n w′ n next
   unify-stay w′ next e en f chains waits buckets = met-quiet (u .state) f (filing-same f (u .state .indexed .filing) (rw (buckets, chains) shaded)) queue
       (waiting-less (t .places) j (chainOf w) (chainOf w′) (q .0) (q .2) (here j 0 (chainOf w) (chainOf w′) chains) (λ r d. (λ z. rw (still j 0 (chainOf w) (chainOf w′) chains r d) z, λ l. rw (still j 0 (chainOf w) (chainOf w′) chains r d) l)))
@@ -71,11 +71,8 @@ module _ {t : Front} {w : List ℕ} {p j n : ℕ} (u : Unifying t w p j n) where
       q : (j < t .places) × (eqnAt w j ≡ false) × (chainOf w j ≡ 0)
       q = first-place (u .state)
 
-      number : suc (p - 1) ≡ p
-      number = omega (arith, u .hit)
-
       same : resAt w (foundIn w (keyAt w j) - 1) ≡ resAt w j
-      same = rw (← u .found, number) e
+      same = rw (← u .found) e
 
       shaded : Filed 761 (t .places) (eqnAt w) (keyAt w) (resAt w) (bucketOf w) (put j 1 (chainOf w))
       shaded = shade (u .state .indexed .filing .filed) j (q .0) (q .1) (q .2) (rw (u .found) at (u .hit)) same

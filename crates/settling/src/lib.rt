@@ -2,15 +2,28 @@
 // (keys), index (filed applications, and those that wait) and joining (joins).
 //
 // An application that waits is looked up by its arguments' labels: what is not found is filed, and what is found makes a join unless the two results have one label. A join may set more to wait.
-ghost use Prim.Native.Nat.{suc, _≤_};
-ghost use Rattle.table.specs.Map.{Within};
+ghost use mathlib.Core.Path.{_≡_};
+ghost use Prim.Native.Nat.{suc, _≤_, _<_};
+ghost use lib.ListN.{length};
+ghost use Rattle.table.specs.Map.{resultOf, labelOf, Within};
 ghost use Rattle.settling.specs.State.{Open, Unifying, Gone};
 use index::Front;
+use meaning::RecordNo;
+use meaning::Tag;
 
 // How far the closure is: the joins made, and one more than the first place that waits, or 0.
 pub struct Progress {
     pub joins: usize,
     pub first: usize,
+}
+
+// The label of an application's result.
+fn outcome(work: &[u16], r: RecordNo) -> Tag
+    requires { ⌜ (32768 ≤ length (now work)) × (r .0 ≤ 4000) × (resultOf (now work) (r .0) < 1000) ⌝ }
+    ensures { λ l. ⌜ l .0 ≡ labelOf (now (work .entry)) (resultOf (now (work .entry)) (r .0)) ⌝ }
+{
+    let t = table::result(work, r);
+    table::label(work, t)
 }
 
 // The application at place j, the first that waits, meets the one that the link p leads to: their results are joined unless they have one label.
@@ -20,10 +33,8 @@ fn unify(work: &mut [u16], front: Front, p: usize, j: usize, joins: usize) -> Pr
 {
     let q = index::number(p - 1);
     let r = index::number(j);
-    let s = table::result(work, q);
-    let t = table::result(work, r);
-    let c = table::label(work, s);
-    let d = table::label(work, t);
+    let c = outcome(work, q);
+    let d = outcome(work, r);
     if c.0 == d.0 {
         let next = table::wait_after(work, j);
         table::put_chain(work, j, 0);

@@ -3,7 +3,7 @@
 use borrow.Author.Needs.{needs}
 use Prim.Native.Nat.{suc, _-_}
 use native.Mathlib.Omega.{arith}
-use Rattle.index.proofs.Touching.{touched-indexed, Swept, swept-none, swept-step, swept-all}
+use Rattle.index.proofs.Sweeping.{touched-indexed, Swept, swept-none, swept-step, swept-all}
 use Rattle.index.proofs.touch_class.Statement.{statement}
 use Rattle.index.proofs.touch_class.Tie as tie
 

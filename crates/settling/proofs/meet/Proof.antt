@@ -1,6 +1,5 @@
 -- `meet` meets its contract. What was found is what the chains have for the key; where that is nothing, the record is filed.
 -- Assumes nothing.
-use borrow.Author.Needs.{needs}
 use mathlib.Core.Path.{_≡_, refl, ap, _∙_}
 use Prim.Native.Nat.{ℕ, _%_, _<_}
 use native.Mathlib.Omega.{arith}
@@ -58,7 +57,7 @@ file-requires c κs =
     (s .pre .indexed .filing, s .pre .indexed .queue, ap (λ (x : ℕ). x % 761) (key-is (a .before .before .before .before)), rw (← found a) (i .if1 .taken), c .before .above .ensures)
 
 same-length : tie.Need-same-length
-same-length c = search needs
+same-length c = c .before .before .file .kept .0
 
 returns : tie.Need-returns
 returns c =
@@ -73,7 +72,7 @@ unify-requires c κs =
     record { state = s .pre; found = found a; hit = omega (arith, c .before .if1 .left) }
 
 same-length-2 : tie.Need-same-length-2
-same-length-2 c = search needs
+same-length-2 c = c .before .before .unify .kept .0
 
 returns-2 : tie.Need-returns-2
 returns-2 c = c .before .before .unify .ensures

@@ -1,19 +1,22 @@
 -- `unify` meets its contract. Where the two results have one label nothing more is known than before; otherwise the join is due.
 -- Assumes nothing.
-use borrow.Author.Needs.{needs}
 use mathlib.Core.Path.{_≡_, sym, ap, _∙_}
-use Prim.Native.Nat.{ℕ, suc, _+_, _-_, _<_, _≤_}
+use Prim.Native.Nat.{ℕ, _+_, _-_, _<_, _≤_}
 use native.Mathlib.Omega.{arith}
-use native.Mathlib.Numerals.{add-one}
 use denote.Ref.{now}
 use lib.ListN.{length}
 use Rattle.table.specs.Map.{resultOf, labelOf}
+use Rattle.index.specs.State.{resAt}
 use Rattle.index.proofs.Views.{store-frame, store-buckets, link-chains, link-waits}
 use Rattle.settling.proofs.unify.Statement.{statement}
 use Rattle.settling.proofs.unify.Tie as tie
-use Rattle.settling.proofs.Views.{row-result}
+use Rattle.settling.proofs.Views.{result-fits}
 use Rattle.settling.proofs.Differing.{unify-low, unify-app, unify-due}
 use Rattle.settling.proofs.Meeting.{first-place, first-most, unify-stay, unify-join}
+
+-- No link.
+none : 0 ≤ 4000
+none = omega arith
 
 long : (s : tie.Start) → 32768 ≤ length (now (s .args .work))
 long s = s .pre .state .standing .loaded .long
@@ -33,55 +36,37 @@ number-requires c κs = low-found (c .before)
 number-requires-2 : tie.Need-number-requires-2
 number-requires-2 c κs = low (c .before .before)
 
-result-requires : tie.Need-result-requires
-result-requires c κs = let s = c .before .before .before .before in (long s, omega (arith, c .before .before .number .ensures, low-found s))
+outcome-requires : tie.Need-outcome-requires
+outcome-requires c κs =
+    let s = c .before .before .before .before in
+    let o = s .pre .state .standing in
+    result-fits (o .loaded) (s .args .p - 1) (omega (arith, unify-low (s .pre), o .reach)) (unify-app (s .pre)) _ (c .before .before .number .ensures)
 
-result-requires-2 : tie.Need-result-requires-2
-result-requires-2 c κs = let s = c .before .before .before .before .before .before in (long s, omega (arith, c .before .before .before .number2 .ensures, low s))
+outcome-requires-2 : tie.Need-outcome-requires-2
+outcome-requires-2 c κs =
+    let s = c .before .before .before .before .before .before in
+    let o = s .pre .state .standing in
+    let f = first-place (s .pre .state) in
+    result-fits (o .loaded) (s .args .j) (omega (arith, f .0, o .reach)) (f .1) _ (c .before .before .before .number2 .ensures)
 
--- The results of the two, ..
-abbrev at-start : tie.After-result2 → tie.Start
-at-start a = a .before .before .before .before .before .before .before
+-- The labels of the two results.
+abbrev begun : tie.After-outcome2 → tie.Start
+begun a = a .before .before .before .before .before .before .before
 
-one : (a : tie.After-result2) → a .before .before .result .result .0 ≡ resultOf (now (at-start a .args .work)) (suc (at-start a .args .p - 1))
-one a = a .before .before .result .ensures ∙ ap (resultOf (now (at-start a .args .work))) (a .before .before .before .before .before .number .ensures)
+one : (a : tie.After-outcome2) → a .before .before .outcome .result .0 ≡ resAt (now (begun a .args .work)) (begun a .args .p - 1)
+one a = let w = now (begun a .args .work) in a .before .before .outcome .ensures ∙ ap (λ (k : ℕ). labelOf w (resultOf w k)) (a .before .before .before .before .before .number .ensures)
 
-two : (a : tie.After-result2) → a .result2 .result .0 ≡ resultOf (now (at-start a .args .work)) (suc (at-start a .args .j))
-two a = a .result2 .ensures ∙ ap (resultOf (now (at-start a .args .work))) (a .before .before .before .before .number2 .ensures)
-
-label-requires : tie.Need-label-requires
-label-requires c κs =
-    let a = c .before in
-    let u = at-start a .pre in
-    (long (at-start a), omega (arith, one a, u .state .standing .loaded .few, row-result (u .state .standing .loaded) (at-start a .args .p - 1) (omega (arith, unify-low u, u .state .standing .reach)) (unify-app u)))
-
-label-requires-2 : tie.Need-label-requires-2
-label-requires-2 c κs =
-    let a = c .before .before .before in
-    let u = at-start a .pre in
-    (long (at-start a), omega (arith, two a, u .state .standing .loaded .few, row-result (u .state .standing .loaded) (at-start a .args .j) (omega (arith, first-place (u .state) .0, u .state .standing .reach)) (first-place (u .state) .1)))
-
--- .. and their labels.
-abbrev begun : tie.After-label2 → tie.Start
-begun a = at-start (a .before .before .before .before)
-
-number : (a : tie.After-label2) → suc (begun a .args .p - 1) ≡ begun a .args .p
-number a = omega (arith, begun a .pre .hit)
-
-first : (a : tie.After-label2) → a .before .before .label .result .0 ≡ labelOf (now (begun a .args .work)) (resultOf (now (begun a .args .work)) (begun a .args .p))
-first a = let w = now (begun a .args .work) in a .before .before .label .ensures ∙ ap (labelOf w) (one (a .before .before .before .before)) ∙ ap (λ (k : ℕ). labelOf w (resultOf w k)) (number a)
-
-second : (a : tie.After-label2) → a .label2 .result .0 ≡ labelOf (now (begun a .args .work)) (resultOf (now (begun a .args .work)) (suc (begun a .args .j)))
-second a = a .label2 .ensures ∙ ap (labelOf (now (begun a .args .work))) (two (a .before .before .before .before))
+two : (a : tie.After-outcome2) → a .outcome2 .result .0 ≡ resAt (now (begun a .args .work)) (begun a .args .j)
+two a = let w = now (begun a .args .work) in a .outcome2 .ensures ∙ ap (λ (k : ℕ). labelOf w (resultOf w k)) (a .before .before .before .before .number2 .ensures)
 
 wait-after-requires : tie.Need-wait-after-requires
 wait-after-requires c κs = let a = c .before .before .before .before in (long (begun a), low (begun a))
 
 put-chain-requires : tie.Need-put-chain-requires
-put-chain-requires c κs = let a = c .before .before .before .before .before .before in (long (begun a), low (begun a), omega arith)
+put-chain-requires c κs = let a = c .before .before .before .before .before .before in (long (begun a), low (begun a), none)
 
 same-length : tie.Need-same-length
-same-length c = search needs
+same-length c = c .before .before .put-chain .kept .0
 
 returns : tie.Need-returns
 returns c =
@@ -91,10 +76,10 @@ returns c =
     let a = i .before .before .before in
     let s = begun a in
     let x = now (s .args .work) in
-    unify-stay (s .pre) _ _ (sym (first a) ∙ i .if1 .taken ∙ second a) (n .wait-after .ensures)
+    unify-stay (s .pre) _ _ (sym (one a) ∙ i .if1 .taken ∙ two a) (n .wait-after .ensures)
     (store-frame x _ (s .args .j) (0 + 1) (long s) (low s) (b .put-chain .ensures))
-    (link-chains x _ (s .args .j) 0 (long s) (low s) (omega arith) (b .put-chain .ensures))
-    (link-waits x _ (s .args .j) 0 (long s) (low s) (omega arith) (b .put-chain .ensures))
+    (link-chains x _ (s .args .j) 0 (long s) (low s) none (b .put-chain .ensures))
+    (link-waits x _ (s .args .j) 0 (long s) (low s) none (b .put-chain .ensures))
     (store-buckets x _ (s .args .j) (0 + 1) (long s) (low s) (b .put-chain .ensures))
 
 add-join : tie.Need-add-join
@@ -104,16 +89,16 @@ join-requires : tie.Need-join-requires
 join-requires c κs =
     let i = c .before in
     let a = i .before .before .before in
-    let n = a .before .before .before .before .before .before .before .before in
-    rw (n .before .number .ensures ∙ number a, n .number2 .ensures, add-one) (unify-due (begun a .pre) _ _ (first a) (second a) (i .if1 .left))
+    let n = a .before .before .before .before in
+    unify-due (begun a .pre) _ _ _ _ _ (omega arith) (n .before .number .ensures) (n .number2 .ensures) (one a) (two a) (i .if1 .left)
 
-add-t14 : tie.Need-add-t14
-add-t14 c =
+add-t12 : tie.Need-add-t12
+add-t12 c =
     let a = c .before .before .before .before .before .before .before in
     record { fits = omega (arith, begun a .pre .state .standing .total, begun a .pre .state .standing .loaded .few) }
 
 same-length-2 : tie.Need-same-length-2
-same-length-2 c = search needs
+same-length-2 c = c .before .before .join .kept .0
 
 returns-2 : tie.Need-returns-2
 returns-2 c =
@@ -128,16 +113,14 @@ unify-spec =
     sub-number
     number-requires
     number-requires-2
-    result-requires
-    result-requires-2
-    label-requires
-    label-requires-2
+    outcome-requires
+    outcome-requires-2
     wait-after-requires
     put-chain-requires
     same-length
     returns
     add-join
     join-requires
-    add-t14
+    add-t12
     same-length-2
     returns-2)
