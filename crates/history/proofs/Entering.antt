@@ -169,8 +169,8 @@ module _ {N len i : ℕ} {w : List ℕ} {n : ℕ} (b : Between N len i w n) (low
   pub equate-key : (x : ℕ) → x ≡ keyAt w′ i → (x / 65536 ≡ labelOf w′ (leftOf w′ (suc i))) × (x % 65536 ≡ labelOf w′ (rightOf w′ (suc i))) × (x / 65536 < 65536)
   equate-key x e =
       let s = equate-standing in
-      let a : labelOf w′ (leftOf w′ (suc i)) < 1000 = omega (arith, s .labels .low (leftOf w′ (suc i)), row-left (s .loaded) i low, s .loaded .few) in
-      let b : labelOf w′ (rightOf w′ (suc i)) < 1000 = omega (arith, s .labels .low (rightOf w′ (suc i)), row-right (s .loaded) i low, s .loaded .few) in
+      let a : labelOf w′ (leftOf w′ (suc i)) < 1000 = omega (arith, s .marks .low (leftOf w′ (suc i)) (row-left (s .loaded) i low), s .loaded .few) in
+      let b : labelOf w′ (rightOf w′ (suc i)) < 1000 = omega (arith, s .marks .low (rightOf w′ (suc i)) (row-right (s .loaded) i low), s .loaded .few) in
       halves x (labelOf w′ (leftOf w′ (suc i))) (labelOf w′ (rightOf w′ (suc i))) e a b
 
   chains : chainOf w′ ≡ put i 1 (chainOf w)

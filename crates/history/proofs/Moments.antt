@@ -18,19 +18,20 @@ use Rattle.meaning.specs.Labels.{classes}
 use Rattle.meaning.specs.Forest.{root, History}
 use Rattle.meaning.specs.Totals.{Count, one, skip, Classes, Idle}
 use Rattle.meaning.proofs.Close.{more-of, Closed, closed-by}
-use Rattle.meaning.proofs.Forest.{root-stop, root-labels, history-start}
+use Rattle.meaning.proofs.Forest.{root-stop, history-start}
 use Rattle.meaning.proofs.Short.{some-class}
 use Rattle.meaning.proofs.Exact.{Settled, settled-classes, idle-iff}
 use Rattle.table.specs.Map.{leftOf, rightOf, resultOf, parentOf, ageOf, whenOf, labelOf, useOf, seen, joinAt, recAt, recordsIn, Loaded, Within}
 use Rattle.table.proofs.Frame.{seen-at, seen-past, seen-within, within-trans, within-wider, length-gather, gather-in, in-gather}
 use Rattle.labels.specs.Parts.{Fills, CountsUp, Fresh}
 use Rattle.labels.proofs.Rows.{at-rec, eq-parts, app-parts}
-use Rattle.labels.proofs.Views.{loaded-same, records-same, fresh-labels, fresh-total, lent-within, lent-at, seen-zero}
+use Rattle.labels.proofs.Views.{loaded-same, records-same, fresh-total, lent-within, lent-at, seen-zero}
 use Rattle.index.specs.declared.Front.{Front}
 use Rattle.index.specs.State.{eqnAt, resAt, foundIn}
 use Rattle.index.proofs.Filing.{none, all-known, uses-none}
 use Rattle.index.proofs.Waiting.{queue-none, queue-empty}
-use Rattle.joining.specs.State.{upTo, Logged, Standing}
+use Rattle.joining.specs.State.{upTo, Logged, Marked, leadOf, Standing}
+use Rattle.joining.proofs.Joining.{leaders}
 use Rattle.settling.specs.State.{Open}
 use Rattle.history.specs.Past.{ageAfter, leaderAfter}
 use Rattle.history.specs.Closing.{Closing}
@@ -62,12 +63,13 @@ count-all p (suc n) h = rw (h n (omega arith), count-all p n (λ a l. h a (omega
 closed-less : {S S′ : Rec → Type 0} {f : ℕ → ℕ} → ((r : Rec) → S′ r → S r) → Closed S f → Closed S′ f
 closed-less h c = record { equal = λ i. c .equal (h _ i); apart = λ i j. c .apart (h _ i) (h _ j) }
 
-module _ {N len i : ℕ} {w : List ℕ} {n : ℕ} (b : Between N len i w n) where
-  log : Logged (recordsIn len w) (upTo i) i (labelOf w) (parentOf w) (ageOf w) (joinAt w) (whenOf w) n
-  log = b .standing .log
+-- Labels that are closed tell that the leaders are.
+closed-led : {S : Rec → Type 0} {N : ℕ} {l f : ℕ → ℕ} → Marked N l f → Closed S l → Closed S f
+closed-led m c = record { equal = λ i. m .apart _ _ (c .equal i); apart = λ i j p q. m .apart _ _ (c .apart i j (m .same _ _ p) (m .same _ _ q)) }
 
-  roots : root (parentOf w) (ageOf w) n ≡ labelOf w
-  roots = fun-ext (log .roots)
+module _ {N len i : ℕ} {w : List ℕ} {n : ℕ} (b : Between N len i w n) where
+  log : Logged (recordsIn len w) (upTo i) i (parentOf w) (ageOf w) (joinAt w) (whenOf w) n
+  log = b .standing .log
 
   age-now : ageAfter w n i ≡ n
   age-now = count-all (λ a. leb (whenOf w a) i) n (λ a l. le-leb (whenOf w a) i (log .made a l .1))
@@ -83,46 +85,43 @@ module _ {N len i : ℕ} {w : List ℕ} {n : ℕ} (b : Between N len i w n) wher
 
   settled : (a : ℕ) → a ≡ n → Settled (recordsIn len w) (λ m. m ≤ i) (joinAt w) a (root (parentOf w) (ageOf w) a)
   settled a e = rw e (record {
-    labels = root-labels (parentOf w) (ageOf w) 1000 n (log .history .links) n (omega arith) (log .history .room);
+    labels = leaders log;
     agree = log .history .then n (omega arith);
     sound = log .justified;
     within = λ k m. in-number k (log .within k m);
-    closed = rw roots (closed-less number-in (open-closed b));
+    closed = closed-less number-in (closed-led (b .standing .marks) (open-closed b));
   })
 
   pub moment-now : Settled (recordsIn len w) (λ m. m ≤ i) (joinAt w) (ageAfter w n i) (leaderAfter w n i)
   moment-now = settled (ageAfter w n i) age-now
 
-  leader-now : leaderAfter w n i ≡ labelOf w
-  leader-now = ap (root (parentOf w) (ageOf w)) age-now ∙ roots
-
   pub classes-now : Classes N (UpTo (recordsIn len w) i) (N - n)
   classes-now =
-      let e : classes (labelOf w) N ≡ N - n = omega (arith, b .standing .total) in
-      rw (← e, ← leader-now) (settled-classes moment-now N)
+      let e : classes (leadOf w n) N ≡ N - n = omega (arith, b .standing .total) in
+      let q : classes (leaderAfter w n i) N ≡ N - n = ap (λ (a : ℕ). classes (root (parentOf w) (ageOf w) a) N) age-now ∙ e in
+      rw (← q) (settled-classes moment-now N)
 
   -- The moments up to this one.
   pub moments-now : (k : ℕ) → k ≤ i → Settled (recordsIn len w) (λ m. m ≤ k) (joinAt w) (ageAfter w n k) (leaderAfter w n k)
   moments-now k l = elim (ℕ-discrete k i) [ yes q ↦ rw q moment-now | no q ↦ log .moments k (omega arith) ]
 
   pub low-now : n < N
-  low-now = omega (arith, b .standing .total, some-class N (labelOf w) (b .standing .labels) (b .standing .loaded .some))
+  low-now = omega (arith, b .standing .total, some-class N (leadOf w n) (leaders log) (b .standing .loaded .some))
 
 -- The next record is in.
 pub standing-next : {N len i : ℕ} {w : List ℕ} {n : ℕ} → Between N len i w n → i < len → Standing (front N len (suc i)) w n
 standing-next {N} {len} {i} {w} {n} b low = record {
   loaded = b .standing .loaded;
   reach = omega arith;
-  labels = b .standing .labels;
   sound = λ x. more-of (λ k m. Memᴰ·append-left (suc i ∷ []) m) (b .standing .sound x);
   total = b .standing .total;
   own = b .standing .own;
   tops = b .standing .tops;
+  marks = b .standing .marks;
   log = let g = b .standing .log in record {
     history = g .history;
     justified = g .justified;
     within = λ k m. Memᴰ·append-left (suc i ∷ []) (g .within k m);
-    roots = g .roots;
     made = λ a l. (g .made a l .0, omega (arith, g .made a l .1));
     order = g .order;
     moments = λ k l. moments-now b k (omega arith);
@@ -177,16 +176,15 @@ between-start {N} {len} {w} {w′} h b = record {
   standing = record {
     loaded = loaded-same (b .frame) h;
     reach = omega arith;
-    labels = fresh-labels (fun-ext (b .labels));
-    sound = λ x. rw (b .labels x) same;
-    total = fresh-total N (fun-ext (b .labels));
-    own = λ x l. b .labels x;
-    tops = record { above = λ x l. rw (b .labels x, b .tops x) (omega arith); below = λ x l e. rw (b .tops x) l };
+    sound = λ x. rw (lead x) same;
+    total = fresh-total N (fun-ext lead);
+    own = λ x l. lead x;
+    tops = record { above = λ x l. rw (lead x, b .tops x) (omega arith); below = λ x l e. rw (b .tops x) l };
+    marks = record { same = λ x y e. b .labels x ∙ sym (lead x) ∙ e ∙ lead y ∙ sym (b .labels y); apart = λ x y e. lead x ∙ sym (b .labels x) ∙ e ∙ b .labels y ∙ sym (lead y); flat = λ x. b .labels (labelOf w′ x); low = λ x l. omega (arith, b .labels x) };
     log = record {
       history = history;
       justified = λ a l. absurd (omega arith);
       within = λ k i. absurd (List·Memᴰ·not-nil i);
-      roots = λ x. root-stop (parentOf w′) (ageOf w′) 1000 0 (history .links) 0 (omega arith) (omega arith) x (omega arith) ∙ sym (b .labels x);
       made = λ a l. absurd (omega arith);
       order = λ a c l k. absurd (omega arith);
       moments = λ k l. absurd (omega arith);
@@ -202,6 +200,9 @@ between-start {N} {len} {w} {w′} h b = record {
   where
     history : History (joinAt w′) 0 (parentOf w′) (ageOf w′) 1000
     history = history-start (joinAt w′) (parentOf w′) (ageOf w′) 1000 (λ x. omega (arith, b .ages x))
+
+    lead : (x : ℕ) → leadOf w′ 0 x ≡ x
+    lead x = root-stop (parentOf w′) (ageOf w′) 1000 0 (history .links) 0 (omega arith) (omega arith) x (omega arith)
 
 -- The idle records so far.
 module _ {N len i : ℕ} {w w′ : List ℕ} {n n′ idle : ℕ} (b : Between N len i w n) (a : Admitted N len i w n w′ n′) (c : Count (Idle N (recordsIn len w)) i idle) where
