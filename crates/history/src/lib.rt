@@ -2,7 +2,7 @@
 // lists of uses. Rests on meaning (what follows, the log of joins, the forest of links), table (where things stand), labels (labels, keys), index (filed applications, and those that wait), joining (joins)
 // and settling (what waits is met).
 //
-// A tag's label is the smallest tag of its class, and at first each tag is its own. A record comes in: an equation joins its two tags, an application goes into its arguments' lists and waits. Those that wait
+// A tag's label is a tag of its class, and at first each tag is its own. A record comes in: an equation joins its two tags, an application goes into its arguments' lists and waits. Those that wait
 // are met, one after the other, until none does; then all records so far hold, and the next comes in.
 ghost use mathlib.Core.Path.{_≡_};
 ghost use mathlib.Core.Bool.{true, false};

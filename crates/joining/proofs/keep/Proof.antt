@@ -39,7 +39,7 @@ low : (o : tie.Joined1) → (o .if1 .lo .0 < 1000) × (o .if1 .hi .0 < 1000)
 low o = let s = start o in elim (order o) [ inl h ↦ (omega (arith, h .1, s .pre .1), omega (arith, h .2, s .pre .2)) | inr h ↦ (omega (arith, h .1, s .pre .2), omega (arith, h .2, s .pre .1)) ]
 
 note-requires : tie.Need-note-requires
-note-requires c κs = let s = start (c .before) in (s .pre .0, low (c .before) .1, s .pre .3)
+note-requires c κs = let s = start (c .before) in (s .pre .0, omega (arith, low (c .before)), s .pre .3)
 
 put-link-requires : tie.Need-put-link-requires
 put-link-requires c κs =
