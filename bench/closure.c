@@ -3,7 +3,7 @@
 
      closure [-r TIMES] < JOB    -r: close the job that many times
 
-   An application is filed by its arguments' labels; before a join relabels a class, the applications that have one of its tags for an argument are taken out and wait; what waits is met again, the
+   An application is filed by its arguments' labels; before a join relabels the class of fewer tags, the applications that have one of its tags for an argument are taken out and wait; what waits is met again, the
    first of them each time, until none does. */
 #include <stdint.h>
 #include <stdio.h>
@@ -14,7 +14,8 @@ enum { TAGS = 1000, RECORDS = 4000, BUCKETS = 761, EQUATION = 65535, LEADS = 100
 
 static uint16_t left[RECORDS + 1], right[RECORDS + 1], result[RECORDS + 1];
 static uint16_t parent[TAGS], /* of a tag that leads its class: the largest tag of it */
-    age[TAGS], first[TAGS], second[TAGS], when[TAGS];
+    age[TAGS],                /* of a tag that leads its class: LEADS, and one more for each other tag of it */
+    first[TAGS], second[TAGS], when[TAGS];
 static uint16_t label[TAGS], more[RECORDS], other[RECORDS], chain[RECORDS], buckets[BUCKETS], uses[TAGS], shares[TAGS];
 static unsigned char job[JOB + 1];
 static long met, longest;
@@ -74,20 +75,36 @@ static int touch_tag(int x, int first)
     return first;
 }
 
+/* The leader of the class that is labelled r: r itself where it has no link, and otherwise the first tag with that label. */
+static uint16_t leader(uint16_t r)
+{
+    uint16_t x = 0;
+    if (age[r] >= LEADS)
+        return r;
+    while (x < r && label[x] != r)
+        x++;
+    return x;
+}
+
 static int join(int joins, int waiting, int one, int another, uint16_t a, uint16_t b, int places)
 {
-    uint16_t lo = a < b ? a : b, hi = a < b ? b : a, top = parent[hi];
-    for (int x = hi; x <= top; x++)
-        if (label[x] == hi)
-            waiting = touch_tag(x, waiting);
-    for (int x = hi; x <= top; x++)
-        label[x] = label[x] == hi ? lo : label[x];
+    uint16_t x = leader(a), y = leader(b);
+    int fewer = age[x] == age[y] ? y < x : age[x] < age[y];
+    uint16_t kept = fewer ? b : a, gone = fewer ? a : b, from = fewer ? x : y, last = parent[from];
+    uint16_t lo = x < y ? x : y, hi = x < y ? y : x;
+    uint16_t top = parent[x] < parent[y] ? parent[y] : parent[x], weight = (uint16_t)(age[x] + age[y] - 999);
+    for (int z = from; z <= last; z++)
+        if (label[z] == gone)
+            waiting = touch_tag(z, waiting);
+    for (int z = from; z <= last; z++)
+        label[z] = label[z] == gone ? kept : label[z];
     parent[hi] = lo;
-    parent[lo] = parent[lo] < top ? top : parent[lo];
     age[hi] = (uint16_t)joins;
     first[joins] = (uint16_t)one;
     second[joins] = (uint16_t)another;
     when[joins] = (uint16_t)places;
+    parent[lo] = top;
+    age[lo] = weight;
     return waiting;
 }
 

@@ -1,26 +1,29 @@
 -- A record comes in: an application waits, and its arguments' lists know it; an equation is joined unless its labels are equal.
 -- Assumes nothing.
-use Prim.Native.Nat.{ℕ, suc, _+_, _≤_, _<_}
+use Prim.Native.Nat.{ℕ, suc, _+_, _*_, _/_, _%_, _≤_, _<_}
 use native.Mathlib.Omega.{arith}
 use native.Mathlib.Numerals.{add-one}
 use mathlib.Core.Path.{_≡_, refl, sym, ap, _∙_, fun-ext}
 use mathlib.Core.Logic.{_≢_, inl, inr}
 use mathlib.Core.Bool.{Bool, true, false, cond, not}
-use mathlib.Core.List.{List}
+use mathlib.Core.List.{List, List·Memᴰ·eq-of-singleton}
 use lib.ListN.{length, set, length-set}
-use Rattle.meaning.specs.Joins.{put}
+use Rattle.meaning.specs.Joins.{put, equation}
 use Rattle.meaning.proofs.Log.{put-miss}
 use Rattle.table.specs.Map.{leftOf, rightOf, labelOf, useOf, moreOf, stateOf, chainOf, waitOf, bucketOf, Within}
-use Rattle.table.proofs.Frame.{seen-in, seen-out, within-trans, within-wider, within-set}
+use Rattle.table.proofs.Frame.{seen-in, seen-out, within-trans, within-wider, within-set, gather-in}
 use Rattle.labels.proofs.Chain.{below}
 use Rattle.labels.proofs.Views.{lefts, rights}
-use Rattle.index.specs.State.{eqnAt, Filing, Used, Queued, Indexed}
+use Rattle.index.specs.State.{eqnAt, keyAt, Filing, Used, Queued, Indexed}
 use Rattle.index.proofs.Filing.{more, uses-eq, uses-app}
 use Rattle.index.proofs.Waiting.{queue-more, queue-put-app}
-use Rattle.index.proofs.Views.{eqn-at, eqns, tags, keys-same, ress-same, wide, labels, keys, ress, uses, mores, store-frame, store-buckets, link-chains, link-waits, wait-chains, wait-waits}
-use Rattle.history.specs.State.{Standing, Level, Joining, Joined, Open, front, Between}
-use Rattle.history.proofs.Moments.{standing-same, standing-next, equate-due}
-use Rattle.history.proofs.Views.{level-same}
+use Rattle.index.proofs.Views.{row-left, row-right, eqn-at, eqns, tags, keys-same, ress-same, wide, labels, keys, ress, uses, mores, store-frame, store-buckets, link-chains, link-waits, wait-chains, wait-waits}
+use Rattle.joining.specs.State.{Standing, Joining, Joined}
+use Rattle.joining.proofs.Standing.{standing-same}
+use Rattle.settling.specs.State.{Level, Open}
+use Rattle.settling.proofs.Views.{level-same, row-at}
+use Rattle.history.specs.State.{front, Between, Admitted}
+use Rattle.history.proofs.Moments.{standing-next}
 
 -- The record of place i was put into the lists of one of its arguments, x.
 pub record Stored (s : Bool) (x i p : ℕ) (w w′ : List ℕ) : Type 0 where
@@ -66,10 +69,21 @@ module _ (w : List ℕ) (long : 32768 ≤ length w) (x i p : ℕ) (small : x < 1
   pub stored-as : (s : Bool) (w′ : List ℕ) (a q : ℕ) → a ≡ x → q ≡ p → w′ ≡ set (set w (cond s 22003 17003 + i) q) (cond s 31764 30764 + a) (i + 1) → Stored s x i p w w′
   stored-as s w′ a q ea eq e = stored s w′ (rw (eq, ea) at e)
 
+-- The place of a record that comes in.
+pub next-low : {N len i : ℕ} {w : List ℕ} {n : ℕ} → Between N len i w n → i < len → i < 4000
+next-low b low = omega (arith, b .standing .loaded .most)
+
+-- .. and its tags.
+pub next-left : {N len i : ℕ} {w : List ℕ} {n : ℕ} → Between N len i w n → i < len → leftOf w (suc i) < 1000
+next-left {i = i} b low = omega (arith, row-left (b .standing .loaded) i low, b .standing .loaded .few)
+
+pub next-right : {N len i : ℕ} {w : List ℕ} {n : ℕ} → Between N len i w n → i < len → rightOf w (suc i) < 1000
+next-right {i = i} b low = omega (arith, row-right (b .standing .loaded) i low, b .standing .loaded .few)
+
 -- An application comes in.
 module _ {N len i : ℕ} {w : List ℕ} {n : ℕ} (b : Between N len i w n) (low : i < len) (app : eqnAt w i ≡ false) where
   most : i < 4000
-  most = omega (arith, low, b .standing .loaded .most)
+  most = next-low b low
 
   pub entered : {w₁ w₂ w₃ : List ℕ} → Stored false (leftOf w (suc i)) i (useOf false w (leftOf w (suc i))) w w₁ → Stored true (rightOf w (suc i)) i (useOf true w₁ (rightOf w (suc i))) w₁ w₂ → w₃ ≡ set w₂ (26003 + i) (0 + 4002)
       → Within 12003 32768 w w₃ × Open (front N len (suc i)) w₃ n (suc i)
@@ -118,10 +132,29 @@ module _ {N len i : ℕ} {w : List ℕ} {n : ℕ} (b : Between N len i w n) (low
       level : Level (suc i) w₃
       level = level-same frame (λ x y q. rw label q) (below (λ j. eqnAt w j ≡ true → labelOf w (leftOf w (suc j)) ≡ labelOf w (rightOf w (suc j))) i (b .level) (λ q. let z : _≡_ {A = ℕ} 0 1 = cc app in absurd (omega arith)))
 
+-- An equation whose labels differ.
+pub equate-due : {N len i : ℕ} {w : List ℕ} {n first : ℕ} → Standing (front N len (suc i)) w n → Indexed (front N len (suc i)) w first → i < len → eqnAt w i ≡ true
+    → (a b : ℕ) → a ≡ labelOf w (leftOf w (suc i)) → b ≡ labelOf w (rightOf w (suc i)) → a ≢ b → Joining (front N len (suc i)) w n first (suc i) 0 a b
+equate-due {i = i} s x l q a b ea eb d = record {
+  standing = s;
+  indexed = x;
+  some = omega arith;
+  due = record {
+    tags = (row-left (s .loaded) i l, row-right (s .loaded) i l);
+    grounds = equation (rw q at (row-at (s .loaded) i l));
+    within = λ m h. rw (List·Memᴰ·eq-of-singleton h) (gather-in suc (suc i) i (omega arith));
+  };
+  apart = d;
+  ends = inl (sym ea, sym eb);
+}
+
+halves : (x a b : ℕ) → x ≡ a * 65536 + b → a < 1000 → b < 1000 → (x / 65536 ≡ a) × (x % 65536 ≡ b) × (x / 65536 < 65536)
+halves x a b e l k = (omega arith, omega arith, omega arith)
+
 -- An equation comes in.
 module _ {N len i : ℕ} {w : List ℕ} {n : ℕ} (b : Between N len i w n) (low : i < len) (eqn : eqnAt w i ≡ true) (w′ : List ℕ) (e : w′ ≡ set w (26003 + i) (0 + 1)) where
   most-eqn : i < 4000
-  most-eqn = omega (arith, low, b .standing .loaded .most)
+  most-eqn = next-low b low
 
   pub equate-chain : Within 26003 30764 w w′
   equate-chain = store-frame w w′ i (0 + 1) (b .standing .loaded .long) most-eqn e
@@ -131,6 +164,14 @@ module _ {N len i : ℕ} {w : List ℕ} {n : ℕ} (b : Between N len i w n) (low
 
   pub equate-standing : Standing (front N len (suc i)) w′ n
   equate-standing = standing-same narrow (labels equate-chain) (standing-next b low)
+
+  -- Its labels, as the two halves of one number.
+  pub equate-key : (x : ℕ) → x ≡ keyAt w′ i → (x / 65536 ≡ labelOf w′ (leftOf w′ (suc i))) × (x % 65536 ≡ labelOf w′ (rightOf w′ (suc i))) × (x / 65536 < 65536)
+  equate-key x e =
+      let s = equate-standing in
+      let a : labelOf w′ (leftOf w′ (suc i)) < 1000 = omega (arith, s .marks .low (leftOf w′ (suc i)) (row-left (s .loaded) i low), s .loaded .few) in
+      let b : labelOf w′ (rightOf w′ (suc i)) < 1000 = omega (arith, s .marks .low (rightOf w′ (suc i)) (row-right (s .loaded) i low), s .loaded .few) in
+      halves x (labelOf w′ (leftOf w′ (suc i))) (labelOf w′ (rightOf w′ (suc i))) e a b
 
   chains : chainOf w′ ≡ put i 1 (chainOf w)
   chains = link-chains w w′ i 0 (b .standing .loaded .long) most-eqn (omega arith) e
@@ -164,12 +205,13 @@ module _ {N len i : ℕ} {w : List ℕ} {n : ℕ} (b : Between N len i w n) (low
     level = below (λ j. eqnAt w′ j ≡ true → labelOf w′ (leftOf w′ (suc j)) ≡ labelOf w′ (rightOf w′ (suc j))) i level (λ _. q);
   }
 
-  pub equate-joining : (x y : ℕ) → x ≡ labelOf w′ (leftOf w′ (suc i)) → y ≡ labelOf w′ (rightOf w′ (suc i)) → x ≢ y → Joining (front N len (suc i)) w′ n 0 (suc i) 0 x y
-  equate-joining x y = equate-due equate-standing equate-indexed low same-eqn x y
+  -- Its number, and how many are in then, as they were handed on.
+  pub equate-joining : (m k x y : ℕ) → m ≡ suc i → k ≡ suc i → x ≡ labelOf w′ (leftOf w′ (suc i)) → y ≡ labelOf w′ (rightOf w′ (suc i)) → x ≢ y → Joining (front N len m) w′ n 0 k 0 x y
+  equate-joining m k x y em ek ex ey d = rw (em, ek) (equate-due equate-standing equate-indexed low same-eqn x y ex ey d)
 
-  pub equate-joined : {x y first : ℕ} {w″ : List ℕ} → x ≡ labelOf w′ (leftOf w′ (suc i)) → y ≡ labelOf w′ (rightOf w′ (suc i)) → Joined (front N len (suc i)) w′ n x y w″ first
+  pub equate-joined : {m x y first : ℕ} {w″ : List ℕ} → m ≡ suc i → x ≡ labelOf w′ (leftOf w′ (suc i)) → y ≡ labelOf w′ (rightOf w′ (suc i)) → Joined (front N len m) w′ n x y w″ first
       → Within 12003 32768 w w″ × Open (front N len (suc i)) w″ (n + 1) first × (n ≤ n + 1)
-  equate-joined {x} {y} {first} {w″} p q J = (
+  equate-joined {m} {x} {y} {first} {w″} em p q J₀ = let J : Joined (front N len (suc i)) w′ n x y w″ first = rw em at J₀ in (
     within-trans (wide equate-chain) (J .frame),
     rw add-one (record {
       standing = J .standing;
@@ -179,3 +221,7 @@ module _ {N len i : ℕ} {w : List ℕ} {n : ℕ} (b : Between N len i w n) (low
     }),
     omega arith,
   )
+
+-- A record is in, and none waits any more.
+pub admitted : {N len i n n′ n″ : ℕ} {w w′ w″ : List ℕ} → Within 12003 32768 w w′ → n ≤ n′ → Within 12003 32768 w′ w″ → Open (front N len (i + 1)) w″ n″ 0 → n′ ≤ n″ → Admitted N len i w n w″ n″
+admitted f a g o b = record { frame = within-trans f g; between = rw add-one at o; more = omega (arith, a, b) }

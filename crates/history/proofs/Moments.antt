@@ -1,5 +1,5 @@
 -- Between two records the labels are closed under the records so far, so this moment is settled and can be kept; the next record only adds to the numbers.
--- A record that is met, and whose labels differ, has a due join. The number of classes is N less the joins, so a record is idle exactly where it made no join.
+-- The number of classes is N less the joins, so a record is idle exactly where it made no join.
 -- Assumes nothing.
 use Prim.Native.Nat.{ℕ, zero, suc, _+_, _-_, _*_, _≤_, _<_}
 use native.Mathlib.Omega.{arith}
@@ -8,73 +8,34 @@ use native.Mathlib.Decide.{ℕ-discrete, decLt}
 use mathlib.Core.Path.{_≡_, refl, sym, ap, _∙_, fun-ext}
 use mathlib.Core.Logic.{_≢_, _↔_, _⊎_, inl, inr}
 use mathlib.Core.Bool.{Bool, true, false}
-use mathlib.Core.List.{List, [], _∷_, _++_, List·Memᴰ, List·Memᴰ·not-nil, List·Memᴰ·eq-of-singleton, List·Memᴰ·cases-cons, Memᴰ·append-left}
+use mathlib.Core.List.{List, [], _∷_, _++_, List·Memᴰ, List·Memᴰ·not-nil, Memᴰ·append-left}
 use lib.Dec.{leb}
 use lib.ListN.{length, take, drop, getD}
-use borrow.Author.Tests.{ne-eqb, le-leb}
+use borrow.Author.Tests.{le-leb}
 use Rattle.meaning.specs.Following.{Rec, eq, app, same, Those, UpTo, Only}
-use Rattle.meaning.specs.Joins.{cong, equation, applications, count}
+use Rattle.meaning.specs.Joins.{count}
 use Rattle.meaning.specs.Labels.{classes}
 use Rattle.meaning.specs.Forest.{root, History}
 use Rattle.meaning.specs.Totals.{Count, one, skip, Classes, Idle}
 use Rattle.meaning.proofs.Close.{more-of, Closed, closed-by}
-use Rattle.meaning.proofs.Forest.{root-stop, root-labels, history-start}
+use Rattle.meaning.proofs.Forest.{root-stop, history-start}
 use Rattle.meaning.proofs.Short.{some-class}
 use Rattle.meaning.proofs.Exact.{Settled, settled-classes, idle-iff}
-use Rattle.table.specs.Map.{leftOf, rightOf, resultOf, parentOf, ageOf, firstOf, secondOf, whenOf, labelOf, useOf, chainOf, seen, joinBy, joinAt, recAt, recordsIn, Loaded, Within}
+use Rattle.table.specs.Map.{leftOf, rightOf, resultOf, parentOf, ageOf, whenOf, labelOf, useOf, seen, joinAt, recAt, recordsIn, Loaded, Within}
 use Rattle.table.proofs.Frame.{seen-at, seen-past, seen-within, within-trans, within-wider, length-gather, gather-in, in-gather}
-use Rattle.history.specs.Past.{ageAfter, leaderAfter}
 use Rattle.labels.specs.Parts.{Fills, CountsUp, Fresh}
 use Rattle.labels.proofs.Rows.{at-rec, eq-parts, app-parts}
-use Rattle.labels.proofs.Views.{lefts, rights, results, loaded-same, records-same, lent-within, lent-at, seen-zero}
-use Rattle.labels.proofs.Rows.{split-key}
-use Rattle.labels.proofs.Views.{fresh-labels, fresh-total}
+use Rattle.labels.proofs.Views.{loaded-same, records-same, fresh-total, lent-within, lent-at, seen-zero}
 use Rattle.index.specs.declared.Front.{Front}
-use Rattle.index.specs.State.{eqnAt, keyAt, resAt, foundIn, Indexed}
-use Rattle.index.proofs.Filing.{none, found-hit, all-known, uses-none}
-use Rattle.index.proofs.Waiting.{queue-none, queue-empty, queue-head}
-use Rattle.index.proofs.Views.{row-left, row-right}
+use Rattle.index.specs.State.{eqnAt, resAt, foundIn}
+use Rattle.index.proofs.Filing.{none, all-known, uses-none}
+use Rattle.index.proofs.Waiting.{queue-none, queue-empty}
+use Rattle.joining.specs.State.{upTo, Logged, Marked, leadOf, Standing}
+use Rattle.joining.proofs.Joining.{leaders}
+use Rattle.settling.specs.State.{Open}
+use Rattle.history.specs.Past.{ageAfter, leaderAfter}
 use Rattle.history.specs.Closing.{Closing}
-use Rattle.history.specs.State.{upTo, Logged, Standing, Joining, Open, Unifying, front, Between, Admitted, Begun, Unlinked}
-use Rattle.history.proofs.Views.{row-result, row-at}
-
--- A change behind the log that keeps the labels keeps what stands.
-module _ {w w′ : List ℕ} (f : Within 17003 32768 w w′) (label : labelOf w′ ≡ labelOf w) where
-  frame : Within 12003 32768 w w′
-  frame = within-wider 12003 32768 (omega arith) (omega arith) f
-
-  parent : parentOf w′ ≡ parentOf w
-  parent = seen-within 12003 1000 (λ x. x) f (inl (omega arith))
-
-  age : ageOf w′ ≡ ageOf w
-  age = seen-within 13003 1000 (λ x. 1000) f (inl (omega arith))
-
-  first : firstOf w′ ≡ firstOf w
-  first = seen-within 14003 1000 (λ x. 0) f (inl (omega arith))
-
-  second : secondOf w′ ≡ secondOf w
-  second = seen-within 15003 1000 (λ x. 0) f (inl (omega arith))
-
-  when : whenOf w′ ≡ whenOf w
-  when = seen-within 16003 1000 (λ x. 0) f (inl (omega arith))
-
-  joins : joinAt w′ ≡ joinAt w
-  joins = fun-ext (λ a. rw (first, second, lefts frame, rights frame, results frame))
-
-  pub standing-same : {t : Front} {n : ℕ} → Standing t w n → Standing t w′ n
-  standing-same s = record {
-    loaded = loaded-same frame (s .loaded);
-    reach = s .reach;
-    labels = rw label (s .labels);
-    sound = rw (lefts frame, rights frame, results frame, label) (s .sound);
-    total = rw label (s .total);
-    own = rw label (s .own);
-    tops = record { above = rw (label, parent) (s .tops .above); below = rw (label, parent) (s .tops .below) };
-    log = rw (joins, lefts frame, rights frame, results frame, label, parent, age, when) (s .log);
-  }
-
-pub standing-frame : {t : Front} {w w′ : List ℕ} {n : ℕ} → Within 26003 32768 w w′ → Standing t w n → Standing t w′ n
-standing-frame f = standing-same (within-wider 17003 32768 (omega arith) (omega arith) f) (seen-within 21003 1000 (λ x. x) f (inl (omega arith)))
+use Rattle.history.specs.State.{front, Between, Admitted, Begun, Unlinked}
 
 -- Where none waits, the labels are closed under the records that are in.
 open-closed : {t : Front} {w : List ℕ} {n : ℕ} → Open t w n 0 → Closed (Only (recordsIn (t .len) w) (upTo (t .places))) (labelOf w)
@@ -102,12 +63,13 @@ count-all p (suc n) h = rw (h n (omega arith), count-all p n (λ a l. h a (omega
 closed-less : {S S′ : Rec → Type 0} {f : ℕ → ℕ} → ((r : Rec) → S′ r → S r) → Closed S f → Closed S′ f
 closed-less h c = record { equal = λ i. c .equal (h _ i); apart = λ i j. c .apart (h _ i) (h _ j) }
 
-module _ {N len i : ℕ} {w : List ℕ} {n : ℕ} (b : Between N len i w n) where
-  log : Logged (recordsIn len w) (upTo i) i (labelOf w) (parentOf w) (ageOf w) (joinAt w) (whenOf w) n
-  log = b .standing .log
+-- Labels that are closed tell that the leaders are.
+closed-led : {S : Rec → Type 0} {N : ℕ} {l f : ℕ → ℕ} → Marked N l f → Closed S l → Closed S f
+closed-led m c = record { equal = λ i. m .apart _ _ (c .equal i); apart = λ i j p q. m .apart _ _ (c .apart i j (m .same _ _ p) (m .same _ _ q)) }
 
-  roots : root (parentOf w) (ageOf w) n ≡ labelOf w
-  roots = fun-ext (log .roots)
+module _ {N len i : ℕ} {w : List ℕ} {n : ℕ} (b : Between N len i w n) where
+  log : Logged (recordsIn len w) (upTo i) i (parentOf w) (ageOf w) (joinAt w) (whenOf w) n
+  log = b .standing .log
 
   age-now : ageAfter w n i ≡ n
   age-now = count-all (λ a. leb (whenOf w a) i) n (λ a l. le-leb (whenOf w a) i (log .made a l .1))
@@ -123,123 +85,48 @@ module _ {N len i : ℕ} {w : List ℕ} {n : ℕ} (b : Between N len i w n) wher
 
   settled : (a : ℕ) → a ≡ n → Settled (recordsIn len w) (λ m. m ≤ i) (joinAt w) a (root (parentOf w) (ageOf w) a)
   settled a e = rw e (record {
-    labels = root-labels (parentOf w) (ageOf w) 1000 n (log .history .links) n (omega arith) (log .history .room);
+    labels = leaders log;
     agree = log .history .then n (omega arith);
     sound = log .justified;
     within = λ k m. in-number k (log .within k m);
-    closed = rw roots (closed-less number-in (open-closed b));
+    closed = closed-less number-in (closed-led (b .standing .marks) (open-closed b));
   })
 
   pub moment-now : Settled (recordsIn len w) (λ m. m ≤ i) (joinAt w) (ageAfter w n i) (leaderAfter w n i)
   moment-now = settled (ageAfter w n i) age-now
 
-  leader-now : leaderAfter w n i ≡ labelOf w
-  leader-now = ap (root (parentOf w) (ageOf w)) age-now ∙ roots
-
   pub classes-now : Classes N (UpTo (recordsIn len w) i) (N - n)
   classes-now =
-      let e : classes (labelOf w) N ≡ N - n = omega (arith, b .standing .total) in
-      rw (← e, ← leader-now) (settled-classes moment-now N)
+      let e : classes (leadOf w n) N ≡ N - n = omega (arith, b .standing .total) in
+      let q : classes (leaderAfter w n i) N ≡ N - n = ap (λ (a : ℕ). classes (root (parentOf w) (ageOf w) a) N) age-now ∙ e in
+      rw (← q) (settled-classes moment-now N)
 
   -- The moments up to this one.
   pub moments-now : (k : ℕ) → k ≤ i → Settled (recordsIn len w) (λ m. m ≤ k) (joinAt w) (ageAfter w n k) (leaderAfter w n k)
   moments-now k l = elim (ℕ-discrete k i) [ yes q ↦ rw q moment-now | no q ↦ log .moments k (omega arith) ]
 
   pub low-now : n < N
-  low-now = omega (arith, b .standing .total, some-class N (labelOf w) (b .standing .labels) (b .standing .loaded .some))
+  low-now = omega (arith, b .standing .total, some-class N (leadOf w n) (leaders log) (b .standing .loaded .some))
 
 -- The next record is in.
 pub standing-next : {N len i : ℕ} {w : List ℕ} {n : ℕ} → Between N len i w n → i < len → Standing (front N len (suc i)) w n
 standing-next {N} {len} {i} {w} {n} b low = record {
   loaded = b .standing .loaded;
   reach = omega arith;
-  labels = b .standing .labels;
   sound = λ x. more-of (λ k m. Memᴰ·append-left (suc i ∷ []) m) (b .standing .sound x);
   total = b .standing .total;
   own = b .standing .own;
   tops = b .standing .tops;
+  marks = b .standing .marks;
   log = let g = b .standing .log in record {
     history = g .history;
     justified = g .justified;
     within = λ k m. Memᴰ·append-left (suc i ∷ []) (g .within k m);
-    roots = g .roots;
     made = λ a l. (g .made a l .0, omega (arith, g .made a l .1));
     order = g .order;
     moments = λ k l. moments-now b k (omega arith);
   };
 }
-
--- An equation whose labels differ.
-pub equate-due : {N len i : ℕ} {w : List ℕ} {n first : ℕ} → Standing (front N len (suc i)) w n → Indexed (front N len (suc i)) w first → i < len → eqnAt w i ≡ true
-    → (a b : ℕ) → a ≡ labelOf w (leftOf w (suc i)) → b ≡ labelOf w (rightOf w (suc i)) → a ≢ b → Joining (front N len (suc i)) w n first (suc i) 0 a b
-equate-due {i = i} s x l q a b ea eb d = record {
-  standing = s;
-  indexed = x;
-  some = omega arith;
-  due = record {
-    tags = (row-left (s .loaded) i l, row-right (s .loaded) i l);
-    grounds = equation (rw q at (row-at (s .loaded) i l));
-    within = λ m h. rw (List·Memᴰ·eq-of-singleton h) (gather-in suc (suc i) i (omega arith));
-  };
-  apart = d;
-  ends = inl (sym ea, sym eb);
-}
-
--- The labels of two applications with one key.
-module _ {t : Front} {w : List ℕ} {n : ℕ} (s : Standing t w n) where
-  right-fits : (j : ℕ) → j < t .places → labelOf w (rightOf w (suc j)) < 65536
-  right-fits j l = omega (arith, s .labels .low (rightOf w (suc j)), row-right (s .loaded) j (omega (arith, s .reach)), s .loaded .few)
-
-  pub key-args : (j r : ℕ) → j < t .places → r < t .places → keyAt w r ≡ keyAt w j
-      → (labelOf w (leftOf w (suc r)) ≡ labelOf w (leftOf w (suc j))) × (labelOf w (rightOf w (suc r)) ≡ labelOf w (rightOf w (suc j)))
-  key-args j r l k e = split-key (labelOf w (leftOf w (suc r))) (labelOf w (rightOf w (suc r))) (labelOf w (leftOf w (suc j))) (labelOf w (rightOf w (suc j))) (right-fits r k) (right-fits j l) e
-
--- An application whose result's label differs from that of the one that is found.
-module _ {t : Front} {w : List ℕ} {p j n : ℕ} (u : Unifying t w p j n) where
-  -- It is the first that waits.
-  pub unify-head : (j < t .places) × (eqnAt w j ≡ false) × (chainOf w j ≡ 0)
-  unify-head = queue-head j (u .state .indexed .queue)
-
-  hit : (keyAt w (p - 1) ≡ keyAt w j) × (p ≤ t .places) × (eqnAt w (p - 1) ≡ false) × (0 < chainOf w (p - 1))
-  hit = rw (u .found) (found-hit (u .state .indexed .filing .filed) (keyAt w j) (rw (u .found) at (u .hit)))
-
-  pub unify-low : p - 1 < t .places
-  unify-low = omega (arith, hit .1, u .hit)
-
-  pub unify-app : eqnAt w (p - 1) ≡ false
-  unify-app = hit .2
-
-  from : suc (p - 1) ≡ p
-  from = omega (arith, u .hit)
-
-  abbrev s : Standing t w n
-  s = u .state .standing
-
-  args : (labelOf w (leftOf w (suc (p - 1))) ≡ labelOf w (leftOf w (suc j))) × (labelOf w (rightOf w (suc (p - 1))) ≡ labelOf w (rightOf w (suc j)))
-  args = key-args s j (p - 1) (unify-head .0) unify-low (hit .0)
-
-  low-len : (r : ℕ) → r < t .places → r < t .len
-  low-len r l = omega (arith, s .reach)
-
-  pair : joinBy w (suc (p - 1)) (suc j) ≡ record { u = resultOf w (suc (p - 1)); v = resultOf w (suc j); why = cong (suc (p - 1)) (suc j) }
-  pair = rw (ne-eqb (suc j) 0 (omega arith))
-
-  due : (a b : ℕ) → a ≡ labelOf w (resultOf w (suc (p - 1))) → b ≡ labelOf w (resultOf w (suc j)) → a ≢ b → Joining t w n (suc j) (suc (p - 1)) (suc j) a b
-  due a b ea eb d = record {
-    standing = s;
-    indexed = u .state .indexed;
-    some = omega (arith, unify-head .0);
-    due = rw pair (record {
-      tags = (row-result (s .loaded) (p - 1) (low-len (p - 1) unify-low) unify-app, row-result (s .loaded) j (low-len j (unify-head .0)) (unify-head .1));
-      grounds = applications (rw unify-app at (row-at (s .loaded) (p - 1) (low-len (p - 1) unify-low))) (rw (unify-head .1) at (row-at (s .loaded) j (low-len j (unify-head .0)))) (args .0) (args .1);
-      within = λ m h. elim (List·Memᴰ·cases-cons h) [ inl q ↦ rw q (gather-in suc (t .places) (p - 1) unify-low) | inr r ↦ rw (List·Memᴰ·eq-of-singleton r) (gather-in suc (t .places) j (unify-head .0)) ];
-    });
-    apart = d;
-    ends = rw pair (inl (sym ea, sym eb));
-  }
-
-  pub unify-due : (a b : ℕ) → a ≡ labelOf w (resultOf w p) → b ≡ labelOf w (resultOf w (suc j)) → a ≢ b → Joining t w n (suc j) p (suc j) a b
-  unify-due a b ea eb d = rw from at (due a b (rw from ea) eb d)
 
 -- The ages are lent, and come back filled.
 pub unlinked : (w w′ v : List ℕ) → 32768 ≤ length w → length v ≡ length (take 1000 (drop 13003 w)) → w′ ≡ take 13003 w ++ (v ++ drop 1000 (drop 13003 w)) → Fills v 1000 → Unlinked w w′
@@ -289,16 +176,15 @@ between-start {N} {len} {w} {w′} h b = record {
   standing = record {
     loaded = loaded-same (b .frame) h;
     reach = omega arith;
-    labels = fresh-labels (fun-ext (b .labels));
-    sound = λ x. rw (b .labels x) same;
-    total = fresh-total N (fun-ext (b .labels));
-    own = λ x l. b .labels x;
-    tops = record { above = λ x l. rw (b .labels x, b .tops x) (omega arith); below = λ x l e. rw (b .tops x) l };
+    sound = λ x. rw (lead x) same;
+    total = fresh-total N (fun-ext lead);
+    own = λ x l. lead x;
+    tops = record { above = λ x l. rw (lead x, b .tops x) (omega arith); below = λ x l e. rw (b .tops x) l };
+    marks = record { same = λ x y e. b .labels x ∙ sym (lead x) ∙ e ∙ lead y ∙ sym (b .labels y); apart = λ x y e. lead x ∙ sym (b .labels x) ∙ e ∙ b .labels y ∙ sym (lead y); flat = λ x. b .labels (labelOf w′ x); low = λ x l. omega (arith, b .labels x) };
     log = record {
       history = history;
       justified = λ a l. absurd (omega arith);
       within = λ k i. absurd (List·Memᴰ·not-nil i);
-      roots = λ x. root-stop (parentOf w′) (ageOf w′) 1000 0 (history .links) 0 (omega arith) (omega arith) x (omega arith) ∙ sym (b .labels x);
       made = λ a l. absurd (omega arith);
       order = λ a c l k. absurd (omega arith);
       moments = λ k l. absurd (omega arith);
@@ -314,6 +200,9 @@ between-start {N} {len} {w} {w′} h b = record {
   where
     history : History (joinAt w′) 0 (parentOf w′) (ageOf w′) 1000
     history = history-start (joinAt w′) (parentOf w′) (ageOf w′) 1000 (λ x. omega (arith, b .ages x))
+
+    lead : (x : ℕ) → leadOf w′ 0 x ≡ x
+    lead x = root-stop (parentOf w′) (ageOf w′) 1000 0 (history .links) 0 (omega arith) (omega arith) x (omega arith)
 
 -- The idle records so far.
 module _ {N len i : ℕ} {w w′ : List ℕ} {n n′ idle : ℕ} (b : Between N len i w n) (a : Admitted N len i w n w′ n′) (c : Count (Idle N (recordsIn len w)) i idle) where

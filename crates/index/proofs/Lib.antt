@@ -2,4 +2,5 @@ pub mod Filing
 pub mod Slipping
 pub mod Waiting
 pub mod Views
-pub mod Touching
+pub mod Placing
+pub mod Sweeping

@@ -150,16 +150,23 @@ fn touch_labelled(work: &mut [u16], front: Front, hi: Tag, x: Tag, first: usize)
     first
 }
 
-// All applications wait that have a tag labelled hi for an argument. No tag above `top` is.
-pub fn touch_class(work: &mut [u16], front: Front, hi: Tag, top: Tag, first: usize) -> usize
-    requires { ⌜ Indexed front (now work) first × (top .0 < 1000) × ((x : ℕ) → labelOf (now work) x ≡ hi .0 → (hi .0 ≤ x) × (x ≤ top .0)) ⌝ }
-    ensures { λ r. ⌜ Touched front (now (work .entry)) (now (work .exit)) r × ((j : ℕ) → j < front .places → eqnAt (now (work .entry)) j ≡ false → (labelOf (now (work .entry)) (leftOf (now (work .entry)) (suc j)) ≡ hi .0) ⊎ (labelOf (now (work .entry)) (rightOf (now (work .entry)) (suc j)) ≡ hi .0) → chainOf (now (work .exit)) j ≡ 0) ⌝ }
+// All applications wait that have a tag labelled `gone` for an argument. No tag below `from` is, nor one above `top`.
+pub fn touch_class(
+    work: &mut [u16],
+    front: Front,
+    gone: Tag,
+    from: Tag,
+    top: Tag,
+    first: usize,
+) -> usize
+    requires { ⌜ Indexed front (now work) first × (top .0 < 1000) × ((x : ℕ) → labelOf (now work) x ≡ gone .0 → (from .0 ≤ x) × (x ≤ top .0)) ⌝ }
+    ensures { λ r. ⌜ Touched front (now (work .entry)) (now (work .exit)) r × ((j : ℕ) → j < front .places → eqnAt (now (work .entry)) j ≡ false → (labelOf (now (work .entry)) (leftOf (now (work .entry)) (suc j)) ≡ gone .0) ⊎ (labelOf (now (work .entry)) (rightOf (now (work .entry)) (suc j)) ≡ gone .0) → chainOf (now (work .exit)) j ≡ 0) ⌝ }
 {
     let n = top.0 as usize;
-    let mut x = hi.0 as usize;
+    let mut x = from.0 as usize;
     let mut to = first;
     while x <= n {
-        to = touch_labelled(work, front, hi, Tag(x as u16), to);
+        to = touch_labelled(work, front, gone, Tag(x as u16), to);
         x += 1;
     }
     to

@@ -36,6 +36,16 @@ into-hit lo hi = rw (eq-eqb hi hi refl)
 pub into-miss : (lo hi y : ℕ) → y ≢ hi → into lo hi y ≡ y
 into-miss lo hi y p = rw (ne-eqb y hi p)
 
+-- Labels that are equal after were equal before, or come one from each side.
+pub into-same : (lo hi u v : ℕ) → into lo hi u ≡ into lo hi v → (u ≡ v) ⊎ (((u ≡ lo) × (v ≡ hi)) ⊎ ((u ≡ hi) × (v ≡ lo)))
+into-same lo hi u v e = go (ℕ-discrete u hi) (ℕ-discrete v hi)
+  where
+    go : Dec (u ≡ hi) → Dec (v ≡ hi) → (u ≡ v) ⊎ (((u ≡ lo) × (v ≡ hi)) ⊎ ((u ≡ hi) × (v ≡ lo)))
+    go (yes p) (yes q) = inl (p ∙ sym q)
+    go (yes p) (no q) = inr (inr (p, cc (into-hit lo hi, into-miss lo hi v q)))
+    go (no p) (yes q) = inr (inl (cc (into-hit lo hi, into-miss lo hi u p), q))
+    go (no p) (no q) = inl (cc (into-miss lo hi u p, into-miss lo hi v q))
+
 module _ (f : ℕ → ℕ) (lo hi : ℕ) (L : Labels f) (own : f lo ≡ lo) (own′ : f hi ≡ hi) (less : lo < hi) where
   pub relabel-labels : Labels (λ x. into lo hi (f x))
   relabel-labels = record { low = λ x. low x (ℕ-discrete (f x) hi); flat = λ x. flat x (ℕ-discrete (f x) hi) }
@@ -47,16 +57,6 @@ module _ (f : ℕ → ℕ) (lo hi : ℕ) (L : Labels f) (own : f lo ≡ lo) (own
       flat : (x : ℕ) → Dec (f x ≡ hi) → into lo hi (f (into lo hi (f x))) ≡ into lo hi (f x)
       flat x (yes p) = rw (p, into-hit lo hi, own, into-miss lo hi lo (omega arith))
       flat x (no p) = rw (into-miss lo hi (f x) p, L .flat x, into-miss lo hi (f x) p)
-
-  -- Labels that are equal after were equal before, or come one from each side.
-  pub relabel-same : (x y : ℕ) → into lo hi (f x) ≡ into lo hi (f y) → (f x ≡ f y) ⊎ (((f x ≡ lo) × (f y ≡ hi)) ⊎ ((f x ≡ hi) × (f y ≡ lo)))
-  relabel-same x y e = go (ℕ-discrete (f x) hi) (ℕ-discrete (f y) hi)
-    where
-      go : Dec (f x ≡ hi) → Dec (f y ≡ hi) → (f x ≡ f y) ⊎ (((f x ≡ lo) × (f y ≡ hi)) ⊎ ((f x ≡ hi) × (f y ≡ lo)))
-      go (yes p) (yes q) = inl (p ∙ sym q)
-      go (yes p) (no q) = inr (inr (p, cc (into-hit lo hi, into-miss lo hi (f y) q)))
-      go (no p) (yes q) = inr (inl (cc (into-hit lo hi, into-miss lo hi (f x) p), q))
-      go (no p) (no q) = inl (cc (into-miss lo hi (f x) p, into-miss lo hi (f y) q))
 
   pub relabel-classes : (N : ℕ) → hi < N → classes f N ≡ suc (classes (λ x. into lo hi (f x)) N)
   relabel-classes N l = count-less-one (λ x. eqb (f x) x) (λ x. eqb (into lo hi (f x)) x) hi (eq-eqb (f hi) hi own′) (rw (own′, into-hit lo hi) (ne-eqb lo hi (omega arith))) (λ x n. go x n (ℕ-discrete (f x) hi)) N l
@@ -72,7 +72,7 @@ Ends f lo hi j = ((f (j .u) ≡ lo) × (f (j .v) ≡ hi)) ⊎ ((f (j .u) ≡ hi)
 -- The labels follow the log through a join of the two classes.
 module _ (e : ℕ → Join) (n : ℕ) (f : ℕ → ℕ) (A : Agree e n f) (lo hi : ℕ) (L : Labels f) (own : f lo ≡ lo) (own′ : f hi ≡ hi) (less : lo < hi) where
   pub relabel-agree : Ends f lo hi (e n) → Agree e (suc n) (λ x. into lo hi (f x))
-  relabel-agree h = record { labels = λ x y. labels x y (bridge h); joins = λ x y p. joins x y (relabel-same f lo hi L own own′ less x y p) h }
+  relabel-agree h = record { labels = λ x y. labels x y (bridge h); joins = λ x y p. joins x y (into-same lo hi (f x) (f y) p) h }
     where
       bridge : Ends f lo hi (e n) → into lo hi (f (e n .u)) ≡ into lo hi (f (e n .v))
       bridge (inl h) = rw (h .0, h .1, into-hit lo hi, into-miss lo hi lo (omega arith))

@@ -1,6 +1,5 @@
 -- `admit` meets its contract. The record comes in by its kind, and what waits then is met.
 -- Assumes nothing.
-use borrow.Author.Needs.{needs}
 use mathlib.Core.Path.{_≡_, sym, _∙_}
 use native.Mathlib.Omega.{arith}
 use native.Mathlib.Numerals.{add-one}
@@ -9,10 +8,10 @@ use Prim.Native.Nat.{_<_}
 use Rattle.index.specs.State.{eqnAt}
 use Rattle.history.proofs.admit.Statement.{statement}
 use Rattle.history.proofs.admit.Tie as tie
-use Rattle.history.proofs.Passing.{admitted}
+use Rattle.history.proofs.Entering.{next-low, admitted}
 
 low : (s : tie.Start) → s .args .i < 4000
-low s = omega (arith, s .pre .1, s .pre .0 .standing .loaded .most)
+low s = next-low (s .pre .0) (s .pre .1)
 
 add-settle : tie.Need-add-settle
 add-settle c = record { fits = omega (arith, low (c .before)) }
@@ -34,7 +33,7 @@ settle-requires : tie.Need-settle-requires
 settle-requires c κs = rw add-one (c .before .before .before .equate .ensures .1)
 
 same-length : tie.Need-same-length
-same-length c = search needs
+same-length c = c .before .before .settle .kept .0 ∙ c .before .before .before .before .before .before .equate .kept .0
 
 returns : tie.Need-returns
 returns c =
@@ -52,7 +51,7 @@ settle-requires-2 : tie.Need-settle-requires-2
 settle-requires-2 c κs = rw add-one (c .before .before .before .enter .ensures .1)
 
 same-length-2 : tie.Need-same-length-2
-same-length-2 c = search needs
+same-length-2 c = c .before .before .settle2 .kept .0 ∙ c .before .before .before .before .before .before .enter .kept .0
 
 returns-2 : tie.Need-returns-2
 returns-2 c =

@@ -1,6 +1,5 @@
 -- `enter` meets its contract. The record goes to the head of both its arguments' lists, and waits.
 -- Assumes nothing.
-use borrow.Author.Needs.{needs}
 use mathlib.Core.Path.{_≡_, ap, _∙_}
 use mathlib.Core.Bool.{true, false}
 use Prim.Native.Nat.{suc, _<_, _≤_}
@@ -8,13 +7,12 @@ use native.Mathlib.Omega.{arith}
 use denote.Ref.{now}
 use lib.ListN.{length}
 use Rattle.table.specs.Map.{leftOf, rightOf, useOf}
-use Rattle.index.proofs.Views.{row-left, row-right}
 use Rattle.history.proofs.enter.Statement.{statement}
 use Rattle.history.proofs.enter.Tie as tie
-use Rattle.history.proofs.Entering.{Stored, stored-as, entered}
+use Rattle.history.proofs.Entering.{next-low, next-left, next-right, Stored, stored-as, entered}
 
 low : (s : tie.Start) → s .args .i < 4000
-low s = omega (arith, s .pre .1, s .pre .0 .standing .loaded .most)
+low s = next-low (s .pre .0) (s .pre .1)
 
 number-requires : tie.Need-number-requires
 number-requires c κs = low (c .before)
@@ -36,10 +34,10 @@ right-is : (r : tie.After-right) → r .right .result .0 ≡ rightOf (now (at-st
 right-is r = r .right .ensures ∙ ap (rightOf (now (at-start r .args .work))) (r .before .before .before .before .number .ensures)
 
 left-low : (r : tie.After-right) → leftOf (now (at-start r .args .work)) (suc (at-start r .args .i)) < 1000
-left-low r = let s = at-start r in omega (arith, row-left (s .pre .0 .standing .loaded) (s .args .i) (s .pre .1), s .pre .0 .standing .loaded .few)
+left-low r = next-left (at-start r .pre .0) (at-start r .pre .1)
 
 right-low : (r : tie.After-right) → rightOf (now (at-start r .args .work)) (suc (at-start r .args .i)) < 1000
-right-low r = let s = at-start r in omega (arith, row-right (s .pre .0 .standing .loaded) (s .args .i) (s .pre .1), s .pre .0 .standing .loaded .few)
+right-low r = next-right (at-start r .pre .0) (at-start r .pre .1)
 
 last-use-requires : tie.Need-last-use-requires
 last-use-requires c κs = let r = c .before in (at-start r .pre .0 .standing .loaded .long, omega (arith, left-is r, left-low r))
@@ -89,7 +87,10 @@ put-wait-requires c κs =
     (omega (arith, long u, second v .frame .size), low (at-start (right-of u)), omega arith)
 
 same-length : tie.Need-same-length
-same-length c = search needs
+same-length c =
+    let p = c .before .before in
+    let v = p .before .before .before .before in
+    p .put-wait .kept .0 ∙ v .put-use2 .kept .0 ∙ v .before .before .before .before .before .before .put-use .kept .0
 
 returns : tie.Need-returns
 returns c =

@@ -1,128 +1,111 @@
 -- `equate` meets its contract. Where the two tags have one label the equation holds already; otherwise the join is due, and
 -- it holds after that.
 -- Assumes nothing.
-use borrow.Author.Needs.{needs}
 use mathlib.Core.Path.{_≡_, sym, ap, _∙_}
-use Prim.Native.Nat.{ℕ, suc, _<_, _≤_}
+use Prim.Native.Nat.{ℕ, suc, _/_, _%_, _<_, _≤_}
 use native.Mathlib.Omega.{arith}
 use native.Mathlib.Numerals.{add-one}
-use denote.Ref.{now}
-use lib.ListN.{length}
-use Rattle.table.specs.Map.{leftOf, rightOf, labelOf, Within}
+use Rattle.table.specs.Map.{leftOf, rightOf, labelOf}
+use Rattle.labels.specs.Parts.{keyIn}
+use Rattle.index.proofs.Views.{wide, row-readable}
 use Rattle.history.proofs.equate.Statement.{statement}
 use Rattle.history.proofs.equate.Tie as tie
-use Rattle.labels.proofs.Views.{lefts, rights}
-use Rattle.index.proofs.Views.{wide, row-left, row-right}
-use Rattle.history.proofs.Entering.{equate-chain, equate-stay, equate-joining, equate-joined}
+use Rattle.history.proofs.Entering.{next-low, equate-chain, equate-standing, equate-key, equate-stay, equate-joining, equate-joined}
+
+-- No link.
+none : 0 ≤ 4000
+none = omega arith
 
 low : (s : tie.Start) → s .args .i < 4000
-low s = omega (arith, s .pre .1, s .pre .0 .standing .loaded .most)
+low s = next-low (s .pre .0) (s .pre .1)
 
 number-requires : tie.Need-number-requires
 number-requires c κs = low (c .before)
 
-left-requires : tie.Need-left-requires
-left-requires c κs = let s = c .before .before .before in (s .pre .0 .standing .loaded .long, omega (arith, c .before .number .ensures, low s))
-
-right-requires : tie.Need-right-requires
-right-requires c κs = let s = c .before .before .before .before .before in (s .pre .0 .standing .loaded .long, omega (arith, c .before .before .before .number .ensures, low s))
-
--- The two tags.
-abbrev at-start : tie.After-right → tie.Start
-at-start r = r .before .before .before .before .before .before
-
-left-is : (r : tie.After-right) → r .before .before .left .result .0 ≡ leftOf (now (at-start r .args .work)) (suc (at-start r .args .i))
-left-is r = r .before .before .left .ensures ∙ ap (leftOf (now (at-start r .args .work))) (r .before .before .before .before .number .ensures)
-
-right-is : (r : tie.After-right) → r .right .result .0 ≡ rightOf (now (at-start r .args .work)) (suc (at-start r .args .i))
-right-is r = r .right .ensures ∙ ap (rightOf (now (at-start r .args .work))) (r .before .before .before .before .number .ensures)
-
 put-chain-requires : tie.Need-put-chain-requires
-put-chain-requires c κs = let s = at-start (c .before) in (s .pre .0 .standing .loaded .long, low s, omega arith)
+put-chain-requires c κs = let s = c .before .before .before in (s .pre .0 .standing .loaded .long, low s, none)
 
 abbrev begun : tie.After-put-chain → tie.Start
-begun p = at-start (p .before .before)
+begun p = p .before .before .before .before
 
-chained : (p : tie.After-put-chain) → Within 26003 30764 (now (begun p .args .work)) (p .put-chain .last .0)
-chained p = equate-chain (begun p .pre .0) (begun p .pre .1) (begun p .pre .2) _ (p .put-chain .ensures)
-
-long : (p : tie.After-put-chain) → 32768 ≤ length (p .put-chain .last .0)
-long p = omega (arith, begun p .pre .0 .standing .loaded .long, chained p .size)
-
-label-requires : tie.Need-label-requires
-label-requires c κs =
+key-requires : tie.Need-key-requires
+key-requires c κs =
     let p = c .before .before .before in
     let s = begun p in
-    (long p, omega (arith, left-is (p .before .before), row-left (s .pre .0 .standing .loaded) (s .args .i) (s .pre .1), s .pre .0 .standing .loaded .few))
+    row-readable (equate-standing (s .pre .0) (s .pre .1) (s .pre .2) _ (p .put-chain .ensures) .loaded) (s .args .i) (s .pre .1) _ (p .before .before .number .ensures)
 
-label-requires-2 : tie.Need-label-requires-2
-label-requires-2 c κs =
-    let p = c .before .before .before .before .before in
+-- The labels of the two tags, as the halves of one number.
+abbrev put-of : tie.After-key → tie.After-put-chain
+put-of k = k .before .before .before .before
+
+labels : (k : tie.After-key) → let w = put-of k .put-chain .last .0 in let i = begun (put-of k) .args .i in
+    (k .key .result / 65536 ≡ labelOf w (leftOf w (suc i))) × (k .key .result % 65536 ≡ labelOf w (rightOf w (suc i))) × (k .key .result / 65536 < 65536)
+labels k =
+    let p = put-of k in
     let s = begun p in
-    (long p, omega (arith, right-is (p .before .before), row-right (s .pre .0 .standing .loaded) (s .args .i) (s .pre .1), s .pre .0 .standing .loaded .few))
+    equate-key (s .pre .0) (s .pre .1) (s .pre .2) _ (p .put-chain .ensures) (k .key .result) (k .key .ensures ∙ ap (keyIn (p .put-chain .last .0)) (p .before .before .number .ensures))
 
--- Their labels.
-abbrev put-of : tie.After-label2 → tie.After-put-chain
-put-of a = a .before .before .before .before .before .before
+cast-t18 : tie.Need-cast-t18
+cast-t18 c = record { fits = labels c .2 }
 
-one : (a : tie.After-label2) → a .before .before .label .result .0 ≡ labelOf (put-of a .put-chain .last .0) (leftOf (put-of a .put-chain .last .0) (suc (begun (put-of a) .args .i)))
-one a =
-    let w = put-of a .put-chain .last .0 in
-    a .before .before .label .ensures ∙ ap (labelOf w) (left-is (put-of a .before .before) ∙ sym (ap (λ (f : ℕ → ℕ). f (suc (begun (put-of a) .args .i))) (lefts (wide (chained (put-of a))))))
+rest-low : (x : ℕ) → x % 65536 < 65536
+rest-low x = omega arith
 
-two : (a : tie.After-label2) → a .label2 .result .0 ≡ labelOf (put-of a .put-chain .last .0) (rightOf (put-of a .put-chain .last .0) (suc (begun (put-of a) .args .i)))
-two a =
-    let w = put-of a .put-chain .last .0 in
-    a .label2 .ensures ∙ ap (labelOf w) (right-is (put-of a .before .before) ∙ sym (ap (λ (f : ℕ → ℕ). f (suc (begun (put-of a) .args .i))) (rights (wide (chained (put-of a))))))
+cast-t18-2 : tie.Need-cast-t18-2
+cast-t18-2 c = record { fits = rest-low (c .key .result) }
 
 same-length : tie.Need-same-length
-same-length c = search needs
+same-length c = put-of (c .before .before .before) .put-chain .kept .0
 
 returns : tie.Need-returns
 returns c =
-    let a = c .before .before .before in
-    let p = put-of a in
+    let k = c .before .before .before in
+    let p = put-of k in
     let s = begun p in
-    (wide (chained p), equate-stay (s .pre .0) (s .pre .1) (s .pre .2) _ (p .put-chain .ensures) (sym (one a) ∙ c .if1 .taken ∙ two a), omega arith)
+    let e = p .put-chain .ensures in
+    (wide (equate-chain (s .pre .0) (s .pre .1) (s .pre .2) _ e), equate-stay (s .pre .0) (s .pre .1) (s .pre .2) _ e (sym (labels k .0) ∙ c .if1 .taken ∙ labels k .1), omega arith)
 
-add-t25 : tie.Need-add-t25
-add-t25 c = record { fits = omega (arith, low (begun (put-of (c .before .before .before)))) }
+add-t17 : tie.Need-add-t17
+add-t17 c = record { fits = omega (arith, low (begun (put-of (c .before .before .before)))) }
 
 join-requires : tie.Need-join-requires
 join-requires c κs =
-    let a = c .before .before .before .before in
-    let p = put-of a in
+    let k = c .before .before .before .before in
+    let p = put-of k in
     let s = begun p in
-    rw (p .before .before .before .before .before .before .number .ensures, add-one) (equate-joining (s .pre .0) (s .pre .1) (s .pre .2) _ (p .put-chain .ensures) _ _ (one a) (two a) (c .before .if1 .left))
+    equate-joining (s .pre .0) (s .pre .1) (s .pre .2) _ (p .put-chain .ensures) _ _ _ _ (add-one (s .args .i)) (p .before .before .number .ensures) (labels k .0) (labels k .1) (c .before .if1 .left)
 
-add-t25-2 : tie.Need-add-t25-2
-add-t25-2 c = let s = begun (put-of (c .before .before .before .before .before .before .before)) in record { fits = omega (arith, s .pre .0 .standing .total, s .pre .0 .standing .loaded .few) }
+-- After the join.
+abbrev key-of : tie.After-join → tie.After-key
+key-of j = j .before .before .before .before .before
+
+add-t17-2 : tie.Need-add-t17-2
+add-t17-2 c = let s = begun (put-of (key-of (c .before .before))) in record { fits = omega (arith, s .pre .0 .standing .total, s .pre .0 .standing .loaded .few) }
 
 same-length-2 : tie.Need-same-length-2
-same-length-2 c = search needs
+same-length-2 c = let j = c .before .before in j .join .kept .0 ∙ put-of (key-of j) .put-chain .kept .0
 
 returns-2 : tie.Need-returns-2
 returns-2 c =
     let j = c .before .before in
-    let a = j .before .before .before .before .before in
-    let p = put-of a in
+    let k = key-of j in
+    let p = put-of k in
     let s = begun p in
-    equate-joined (s .pre .0) (s .pre .1) (s .pre .2) _ (p .put-chain .ensures) (one a) (two a) (rw add-one at (j .join .ensures))
+    equate-joined (s .pre .0) (s .pre .1) (s .pre .2) _ (p .put-chain .ensures) (add-one (s .args .i)) (labels k .0) (labels k .1) (j .join .ensures)
 
 pub equate-spec : {M : Type 1} → statement M
 equate-spec =
     tie.close
     (tie.spec
     number-requires
-    left-requires
-    right-requires
     put-chain-requires
-    label-requires
-    label-requires-2
+    key-requires
+    cast-t18
+    cast-t18-2
     same-length
     returns
-    add-t25
+    add-t17
     join-requires
-    add-t25-2
+    add-t17-2
     same-length-2
     returns-2)

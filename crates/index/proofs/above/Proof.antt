@@ -3,7 +3,7 @@
 use Prim.Native.Nat.{_-_}
 use native.Mathlib.Omega.{arith}
 use Rattle.index.proofs.Filing.{falls′}
-use Rattle.index.proofs.Touching.{Seen, seen-none, seen-step, seen-place, seen-all}
+use Rattle.index.proofs.Placing.{Seen, seen-none, seen-step, seen-place, seen-all}
 use Rattle.index.proofs.above.Statement.{statement}
 use Rattle.index.proofs.above.Tie as tie
 

@@ -2,7 +2,7 @@
 -- Assumes nothing.
 use native.Mathlib.Omega.{arith}
 use mathlib.Core.Path.{sym, _∙_}
-use Rattle.index.proofs.Touching.{behind-head, behind-next}
+use Rattle.index.proofs.Placing.{behind-head, behind-next}
 use Rattle.index.proofs.behind.Statement.{statement}
 use Rattle.index.proofs.behind.Tie as tie
 

@@ -3,7 +3,7 @@
 use native.Mathlib.Omega.{arith}
 use lib.ListN.{length-set}
 use Rattle.index.proofs.Waiting.{queue-head}
-use Rattle.index.proofs.Touching.{above-room, behind-room, put-in}
+use Rattle.index.proofs.Placing.{above-room, behind-room, put-in}
 use Rattle.index.proofs.file.Statement.{statement}
 use Rattle.index.proofs.file.Tie as tie
 

@@ -1,7 +1,7 @@
 -- `lead` meets its contract.
 -- Assumes nothing.
 use native.Mathlib.Omega.{arith}
-use Rattle.index.proofs.Touching.{led-head, led-rest}
+use Rattle.index.proofs.Placing.{led-head, led-rest}
 use Rattle.index.proofs.lead.Statement.{statement}
 use Rattle.index.proofs.lead.Tie as tie
 

@@ -3,7 +3,7 @@
 use native.Mathlib.Omega.{arith}
 use native.Mathlib.Numerals.{add-one}
 use mathlib.Core.Path.{sym, _∙_}
-use Rattle.index.proofs.Touching.{queue-low, above-room, taken, left}
+use Rattle.index.proofs.Placing.{queue-low, above-room, taken, left}
 use Rattle.index.proofs.take_out.Statement.{statement}
 use Rattle.index.proofs.take_out.Tie as tie
 

@@ -9,7 +9,7 @@ use denote.Ref.{now}
 use borrow.Author.Tests.{eqb-true, eqb-false}
 use Rattle.table.specs.Map.{chainOf}
 use Rattle.index.proofs.Views.{row-readable}
-use Rattle.index.proofs.Touching.{touched-refl}
+use Rattle.index.proofs.Sweeping.{touched-refl}
 use Rattle.index.proofs.touch.Statement.{statement}
 use Rattle.index.proofs.touch.Tie as tie
 

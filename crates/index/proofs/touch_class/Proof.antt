@@ -1,17 +1,17 @@
--- `touch_class` meets its contract. Every tag labelled hi stands between hi and the top, so all were gone by.
+-- `touch_class` meets its contract. Every tag that is labelled so stands between the first and the top, so all were gone by.
 -- Assumes nothing.
 use borrow.Author.Needs.{needs}
 use Prim.Native.Nat.{suc, _-_}
 use native.Mathlib.Omega.{arith}
-use Rattle.index.proofs.Touching.{touched-indexed, Swept, swept-none, swept-step, swept-all}
+use Rattle.index.proofs.Sweeping.{touched-indexed, Swept, swept-none, swept-step, swept-all}
 use Rattle.index.proofs.touch_class.Statement.{statement}
 use Rattle.index.proofs.touch_class.Tie as tie
 
 abbrev Inv-loop : tie.InvT-loop
-Inv-loop work₀ front hi first n x₀ to₀ work x to = Swept front (hi .0) work₀ work x to
+Inv-loop work₀ front gone first n x₀ to₀ work x to = Swept front (gone .0) work₀ work x to
 
 abbrev μ-loop : tie.MeasureT-loop
-μ-loop work₀ front hi first n x₀ to₀ work x to = suc n - x
+μ-loop work₀ front gone first n x₀ to₀ work x to = suc n - x
 
 cast-n : tie.Need-cast-n Inv-loop μ-loop
 cast-n c = search needs
@@ -22,8 +22,8 @@ cast-x c = search needs
 loop-holds : tie.Need-loop-holds Inv-loop μ-loop
 loop-holds c = let s = c .before .before .before in swept-none (s .pre .0) (s .pre .2)
 
-cast-t12 : tie.Need-cast-t12 Inv-loop μ-loop
-cast-t12 c = let s = c .before .before .before .before .before .before in record { fits = omega (arith, s .pre .1) }
+cast-t13 : tie.Need-cast-t13 Inv-loop μ-loop
+cast-t13 c = let s = c .before .before .before .before .before .before in record { fits = omega (arith, s .pre .1) }
 
 touch-labelled-requires : tie.Need-touch-labelled-requires Inv-loop μ-loop
 touch-labelled-requires c κs = let s = c .before .before .before .before .before .before in (touched-indexed (s .pre .0) (c .before .before .loop .inv .touched), omega (arith, s .pre .1))
@@ -58,7 +58,7 @@ touch-class-spec =
     cast-n
     cast-x
     loop-holds
-    cast-t12
+    cast-t13
     touch-labelled-requires
     add-x
     loop-less

@@ -1,7 +1,7 @@
 -- `touch_labelled` meets its contract: of a tag with another label nothing is asked.
 -- Assumes nothing.
 use mathlib.Core.Path.{refl, _∙_}
-use Rattle.index.proofs.Touching.{touched-refl}
+use Rattle.index.proofs.Sweeping.{touched-refl}
 use Rattle.index.proofs.touch_labelled.Statement.{statement}
 use Rattle.index.proofs.touch_labelled.Tie as tie
 

@@ -1,7 +1,7 @@
 -- `touch_tag` meets its contract: the two lists of the tag tell all applications that have it for an argument.
 -- Assumes nothing.
 use mathlib.Core.Path.{_∙_}
-use Rattle.index.proofs.Touching.{touched-indexed, tagged}
+use Rattle.index.proofs.Sweeping.{touched-indexed, tagged}
 use Rattle.index.proofs.touch_tag.Statement.{statement}
 use Rattle.index.proofs.touch_tag.Tie as tie
 

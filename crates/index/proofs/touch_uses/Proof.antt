@@ -4,7 +4,7 @@ use Prim.Native.Nat.{_-_}
 use native.Mathlib.Omega.{arith}
 use mathlib.Core.Path.{_∙_}
 use Rattle.index.proofs.Views.{eqn-at, wide}
-use Rattle.index.proofs.Touching.{Along, along-none, along-app, along-step, along-all}
+use Rattle.index.proofs.Sweeping.{Along, along-none, along-app, along-step, along-all}
 use Rattle.index.proofs.touch_uses.Statement.{statement}
 use Rattle.index.proofs.touch_uses.Tie as tie
 

@@ -1,0 +1,4 @@
+pub mod Views
+pub mod Differing
+pub mod Meeting
+pub mod Passing
