@@ -1,7 +1,7 @@
 -- `bucket` meets its contract. Assumes nothing.
 use mathlib.Core.Path.{refl}
-use Rattle.closure.proofs.bucket.Statement.{statement}
-use Rattle.closure.proofs.bucket.Tie as tie
+use Rattle.passes.proofs.bucket.Statement.{statement}
+use Rattle.passes.proofs.bucket.Tie as tie
 
 returns : tie.Need-returns
 returns c = rw (c .if1 .taken) refl

@@ -2,9 +2,9 @@
 -- Assumes nothing.
 use borrow.Author.Needs.{needs}
 use native.Mathlib.Omega.{arith}
-use Rattle.closure.proofs.join.Statement.{statement}
-use Rattle.closure.proofs.join.Tie as tie
-use Rattle.closure.proofs.Uniting.{united, joining-flip}
+use Rattle.passes.proofs.join.Statement.{statement}
+use Rattle.passes.proofs.join.Tie as tie
+use Rattle.passes.proofs.Uniting.{united, joining-flip}
 
 merge-requires : tie.Need-merge-requires
 merge-requires c κs = let s = c .before .before .before .before .before in (s .pre .listed .loaded .long, s .pre .listed .loaded .few, s .pre .tags .1, s .pre .own)

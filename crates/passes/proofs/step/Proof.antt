@@ -3,10 +3,10 @@
 use borrow.Author.Needs.{needs}
 use native.Mathlib.Omega.{arith}
 use denote.Ref.{now}
-use Rattle.closure.proofs.step.Statement.{statement}
-use Rattle.closure.proofs.step.Tie as tie
-use Rattle.closure.proofs.Rows.{row-most}
-use Rattle.closure.proofs.Steps.{eqn-is}
+use Rattle.passes.proofs.step.Statement.{statement}
+use Rattle.passes.proofs.step.Tie as tie
+use Rattle.passes.proofs.Rows.{row-most}
+use Rattle.passes.proofs.Steps.{eqn-is}
 
 listed-requires : tie.Need-listed-requires
 listed-requires c κs = let p = c .before .before .pre in (p .state .listed .loaded .long, omega (arith, p .place, p .state .listed .short))

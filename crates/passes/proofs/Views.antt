@@ -9,9 +9,9 @@ use mathlib.Core.List.{List}
 use Rattle.table.specs.Map.{leftOf, rightOf, listOf, labelOf, Within}
 use Rattle.table.proofs.Frame.{seen-within, within-wider}
 use Rattle.labels.proofs.Views.{lefts, rights, results, loaded-same}
-use Rattle.closure.specs.Closing.{Listed}
-use Rattle.closure.specs.declared.Task.{Task}
-use Rattle.closure.specs.State.{State, eqnOf, keyOf, resOf}
+use Rattle.passes.specs.Listed.{Listed}
+use Rattle.passes.specs.declared.Task.{Task}
+use Rattle.passes.specs.State.{State, eqnOf, keyOf, resOf}
 
 -- The columns are kept.
 pub listed-same : {end N len n : ℕ} {w w′ : List ℕ} → Within 12003 end w w′ → listOf w′ ≡ listOf w → Listed N len n w → Listed N len n w′

@@ -3,10 +3,10 @@
 use mathlib.Core.Path.{_≡_, _∙_}
 use Prim.Native.Nat.{_-_, _≤_}
 use native.Mathlib.Omega.{arith}
-use Rattle.closure.specs.State.{Passed}
-use Rattle.closure.proofs.pass.Statement.{statement}
-use Rattle.closure.proofs.pass.Tie as tie
-use Rattle.closure.proofs.Steps.{passed-none, passed-step, passed-from}
+use Rattle.passes.specs.State.{Passed}
+use Rattle.passes.proofs.pass.Statement.{statement}
+use Rattle.passes.proofs.pass.Tie as tie
+use Rattle.passes.proofs.Steps.{passed-none, passed-step, passed-from}
 
 abbrev Inv-loop : tie.InvT-loop
 Inv-loop work₀ task joins n made₀ i₀ work made i = (i ≤ n) × Passed task work₀ joins i work made

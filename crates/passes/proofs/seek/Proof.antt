@@ -10,10 +10,10 @@ use Rattle.labels.specs.Chain.{seekTo, hits}
 use Rattle.labels.specs.Parts.{nextTo}
 use Rattle.labels.proofs.Chain.{seek-found, seek-next, seek-none}
 use Rattle.labels.proofs.Views.{next-is}
-use Rattle.closure.specs.State.{keyOf}
-use Rattle.closure.proofs.seek.Statement.{statement}
-use Rattle.closure.proofs.seek.Tie as tie
-use Rattle.closure.proofs.Rows.{row-readable}
+use Rattle.passes.specs.State.{keyOf}
+use Rattle.passes.proofs.seek.Statement.{statement}
+use Rattle.passes.proofs.seek.Tie as tie
+use Rattle.passes.proofs.Rows.{row-readable}
 
 abbrev Inv-loop : tie.InvT-loop
 Inv-loop work from x p₀ p = (p ≤ from) × (seekTo (nextTo from work) (hits (keyOf work) x) p ≡ seekTo (nextTo from work) (hits (keyOf work) x) from)

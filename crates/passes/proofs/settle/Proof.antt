@@ -6,9 +6,9 @@ use Prim.Native.Nat.{_-_, _≤_}
 use native.Mathlib.Omega.{arith}
 use Rattle.table.specs.Map.{Within}
 use Rattle.table.proofs.Frame.{within-refl, within-trans}
-use Rattle.closure.specs.State.{State}
-use Rattle.closure.proofs.settle.Statement.{statement}
-use Rattle.closure.proofs.settle.Tie as tie
+use Rattle.passes.specs.State.{State}
+use Rattle.passes.proofs.settle.Statement.{statement}
+use Rattle.passes.proofs.settle.Tie as tie
 
 abbrev Inv-loop : tie.InvT-loop
 Inv-loop work₀ task joins made₀ work made = State task work made × Within 21003 30096 work₀ work × (joins ≤ made)

@@ -13,9 +13,9 @@ use Rattle.table.specs.Map.{listOf, labelOf, recordsIn, listIn, Within}
 use Rattle.table.proofs.Frame.{seen-within, within-wider}
 use Rattle.labels.specs.Parts.{reach, width, Relabelled}
 use Rattle.labels.proofs.Views.{lefts, rights, results}
-use Rattle.closure.specs.declared.Task.{Task}
-use Rattle.closure.specs.State.{State, Joining, Joined}
-use Rattle.closure.proofs.Views.{listed-same}
+use Rattle.passes.specs.declared.Task.{Task}
+use Rattle.passes.specs.State.{State, Joining, Joined}
+use Rattle.passes.proofs.Views.{listed-same}
 
 module _ {t : Task} {w w′ : List ℕ} {lo hi : ℕ} (J : Joining t w lo hi) (less : lo < hi) (m : Relabelled w w′ lo hi) where
   list : listOf w′ ≡ listOf w
