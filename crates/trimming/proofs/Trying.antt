@@ -194,28 +194,25 @@ module _ {N len s t kept i j n rest : ℕ} {w w₁ : List ℕ} (T : Trying N len
     tried-saving h = saved-more (λ k m. left-same agree j n k (list-left k m)) h
 
     -- They do not, and the other is one: it stays.
-    module _ {w₃ : List ℕ} {one : ℕ} (single : j ≡ suc i) (take : one ≡ listOf w₂ (2000 + i)) (put : w₃ ≡ set w₂ (17003 + kept) one) (q : answer ≡ false) where
-      small : kept < 2000
-      small = omega (arith, T .few, T .short)
-
-      long : 32768 ≤ length w₂
-      long = omega (arith, T .loaded .long, whole .size)
-
-      is : one ≡ listOf w (2000 + i)
-      is = take ∙ agree .at (2000 + i) (inr (omega arith))
+    module _ {w₃ : List ℕ} (single : j ≡ suc i) (K : Copied w₂ w₃ (2000 + i) kept 1) (q : answer ≡ false) where
+      abbrev one : ℕ
+      one = listOf w (2000 + i)
 
       here : listOf w₃ kept ≡ one
-      here = rw put (list-hit w₂ kept one (omega (arith, small)) long)
+      here =
+          let z : kept + 0 ≡ kept = omega arith in
+          let y : 2000 + i + 0 ≡ 2000 + i = omega arith in
+          sym (ap (listOf w₃) z) ∙ K .copy 0 (omega arith) ∙ ap (listOf w₂) y ∙ agree .at (2000 + i) (inr (omega arith))
 
       agree₃ : Agreeing kept w w₃
-      agree₃ = record { at = λ x o. rw put (list-miss w₂ kept one x (omega (arith, small)) long (apart x o)) ∙ agree .at x o }
+      agree₃ = record { at = λ x o. K .same x (out x o) ∙ agree .at x o }
         where
-          apart : (x : ℕ) → (x < kept) ⊎ (2000 ≤ x) → x ≢ kept
-          apart x (inl l) z = omega arith
-          apart x (inr l) z = omega (arith, small)
+          out : (x : ℕ) → (x < kept) ⊎ (2000 ≤ x) → (x < kept) ⊎ (kept + 1 ≤ x)
+          out x (inl l) = inl l
+          out x (inr l) = inr (omega (arith, T .few, T .short))
 
       whole₃ : Within 17003 e w w₃
-      whole₃ = within-trans whole (rw put (within-set 17003 e w₂ (17003 + kept) one (omega arith) (omega (arith, small))))
+      whole₃ = within-trans whole (within-wider 17003 e (omega arith) scratch (K .kept))
 
       records₃ : recordsIn len w₃ ≡ recordsIn len w
       records₃ = kept-records whole₃ len
@@ -223,7 +220,7 @@ module _ {N len s t kept i j n rest : ℕ} {w w₁ : List ℕ} (T : Trying N len
       there : (k : ℕ) → Left w₃ (suc kept) j n k → Left w kept i n k
       there k (inl m) = elim (List·Memᴰ·append-cases (listIn kept w₃) m) [
         | inl h ↦ inl (rw (agree-list agree₃) at h)
-        | inr h ↦ inr (i, omega arith, omega arith, sym is ∙ sym here ∙ sym (List·Memᴰ·eq-of-singleton h))
+        | inr h ↦ inr (i, omega arith, omega arith, sym here ∙ sym (List·Memᴰ·eq-of-singleton h))
       ]
       there k (inr m) = left-fewer w kept i j n k from (left-same (agree-flip agree₃) j n k (inr m))
 
@@ -238,11 +235,11 @@ module _ {N len s t kept i j n rest : ℕ} {w w₁ : List ℕ} (T : Trying N len
         where
           go : Dec (k ≡ one) → Left w₃ (suc kept) j n k
           go (yes z) = inl (Memᴰ·append-right (listIn kept w₃) (List·Memᴰ·head (z ∙ sym here)))
-          go (no z) = grown j k (left-other w kept i j n k single (λ y. z (y ∙ sym is)) h)
+          go (no z) = grown j k (left-other w kept i j n k single z h)
 
       needed : Follows (Those (recordsIn len w) (λ k. Left w kept i n k × (k ≢ one))) s t → ⊥
       needed h =
-          let z : true ≡ false = sym (exact .1 (rw records₁ (more-of (λ k x. left-list k (left-other w kept i j n k single (λ y. x .1 (y ∙ sym is)) (x .0))) h))) ∙ q in
+          let z : true ≡ false = sym (exact .1 (rw records₁ (more-of (λ k x. left-list k (left-other w kept i j n k single (x .1) (x .0))) h))) ∙ q in
           let y : _≡_ {A = ℕ} 0 1 = cc in
           omega arith
 

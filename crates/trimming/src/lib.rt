@@ -39,13 +39,13 @@ fn try_one(
     requires { ⌜ Trying size len (s .0) (t .0) (now work) kept i n × (i < n) × Saved size len (Left (now work) kept (i + 1) n) (now work) joins ⌝ }
     ensures { λ r. ⌜ Tried 30096 size len (s .0) (t .0) (now (work .entry)) (now (work .exit)) kept i (i + 1) n r ⌝ }
 {
-    let rest = n - (i + 1);
-    copy(work, listing::WAITING + (i + 1), kept, rest);
+    let next = i + 1;
+    let rest = n - next;
+    copy(work, listing::WAITING + next, kept, rest);
     if closure::resume(work, size, len, kept + rest, joins, s, t) {
         return kept;
     }
-    let k = table::listed(work, listing::WAITING + i);
-    table::put_listed(work, kept, k);
+    copy(work, listing::WAITING + i, kept, 1);
     kept + 1
 }
 

@@ -8,17 +8,14 @@ use Rattle.trimming.proofs.Trying.{tried-listed, tried-held, tried-drop
 use Rattle.trimming.proofs.try_one.Statement.{statement}
 use Rattle.trimming.proofs.try_one.Tie as tie
 
-add-rest : tie.Need-add-rest
-add-rest c = search needs
+add-next : tie.Need-add-next
+add-next c = search needs
 
 sub-rest : tie.Need-sub-rest
 sub-rest c = search needs
 
 add-copy : tie.Need-add-copy
 add-copy c = search needs
-
-add-copy-2 : tie.Need-add-copy-2
-add-copy-2 c = search needs
 
 copy-requires : tie.Need-copy-requires
 copy-requires c κs =
@@ -43,28 +40,22 @@ returns c =
 same-length : tie.Need-same-length
 same-length c = returns c .kept-in .size
 
-add-listed : tie.Need-add-listed
-add-listed c = search needs
+add-copy-2 : tie.Need-add-copy-2
+add-copy-2 c = search needs
 
-listed-requires : tie.Need-listed-requires
-listed-requires c κs =
+copy-requires-2 : tie.Need-copy-requires-2
+copy-requires-2 c κs =
     let start = c .before .before .before .before .before .before .before .before .before .before .before in
-    (omega (arith, start .pre .0 .loaded .long, c .before .before .before .before .before .before .before .before .copy .ensures .kept .size, c .before .before .before .before .resume .ensures .kept .size), omega (arith, start .pre .0 .short, start .pre .1))
-
-put-listed-requires : tie.Need-put-listed-requires
-put-listed-requires c κs =
-    let start = c .before .before .before .before .before .before .before .before .before .before .before .before .before in
-    (omega (arith, start .pre .0 .loaded .long, c .before .before .before .before .before .before .before .before .before .before .copy .ensures .kept .size, c .before .before .before .before .before .before .resume .ensures .kept .size), omega (arith, start .pre .0 .few, start .pre .0 .short, start .pre .1))
+    (omega (arith, start .pre .0 .loaded .long, c .before .before .before .before .before .before .before .before .copy .ensures .kept .size, c .before .before .before .before .resume .ensures .kept .size), omega (arith, start .pre .0 .few, start .pre .0 .short), omega (arith, start .pre .0 .short, start .pre .1))
 
 add-result : tie.Need-add-result
 add-result c = search needs
 
 returns-2 : tie.Need-returns-2
 returns-2 c =
-    let start = c .before .before .before .before .before .before .before .before .before .before .before .before .before .before .before .before in
-    let R = c .before .before .before .before .before .before .before .before .before .resume .ensures in
-    rw (add-one (start .args .kept)) (tried-keep (start .pre .0) (omega arith) (omega (arith, start .pre .1)) refl (c .before .before .before .before .before .before .before .before .before .before .before .before .before .copy .ensures) (omega arith) (R .kept) (R .exact)
-    (add-one (start .args .i)) (c .before .before .before .before .listed .ensures) (c .before .before .put-listed .ensures) (c .before .before .before .before .before .before .if1 .left))
+    let start = c .before .before .before .before .before .before .before .before .before .before .before .before .before .before in
+    let R = c .before .before .before .before .before .before .before .resume .ensures in
+    rw (add-one (start .args .kept)) (tried-keep (start .pre .0) (omega arith) (omega (arith, start .pre .1)) refl (c .before .before .before .before .before .before .before .before .before .before .before .copy .ensures) (omega arith) (R .kept) (R .exact) (add-one (start .args .i)) (c .before .before .copy2 .ensures) (c .before .before .before .before .if1 .left))
 
 same-length-2 : tie.Need-same-length-2
 same-length-2 c = returns-2 c .kept-in .size
@@ -73,18 +64,16 @@ pub try-one-spec : {M : Type 1} → statement M
 try-one-spec =
     tie.close
     (tie.spec
-    add-rest
+    add-next
     sub-rest
     add-copy
-    add-copy-2
     copy-requires
     add-resume
     resume-requires
     same-length
     returns
-    add-listed
-    listed-requires
-    put-listed-requires
+    add-copy-2
+    copy-requires-2
     add-result
     same-length-2
     returns-2)
