@@ -8,10 +8,10 @@ use Rattle.trimming.proofs.trim.Statement.{statement}
 use Rattle.trimming.proofs.trim.Tie as tie
 
 abbrev Inv-loop : tie.InvT-loop
-Inv-loop work₀ size len n s t kept₀ i₀ work kept i = Pruning size len (s .0) (t .0) work₀ work n kept i
+Inv-loop work₀ size len n q kept₀ i₀ work kept i = Pruning (q .size) (q .len) (q .s .0) (q .t .0) work₀ work (q .n) kept i
 
 abbrev μ-loop : tie.MeasureT-loop
-μ-loop work₀ size len n s t kept₀ i₀ work kept i = n - i
+μ-loop work₀ size len n q kept₀ i₀ work kept i = n - i
 
 loop-holds : tie.Need-loop-holds Inv-loop μ-loop
 loop-holds c = pruning-start (c .before .pre)

@@ -22,12 +22,12 @@ add-hold c = search needs
 
 hold-requires : tie.Need-hold-requires
 hold-requires c κs =
-    let start = c .before .before .before .before .before .before in
+    let start = c .before .before .before .before .before .before .before in
     (tried-listed (start .pre .0) (start .pre .1) (start .pre .2) refl (c .before .before .before .copy .ensures), start .pre .0 .s-tag, start .pre .0 .t-tag)
 
 returns : tie.Need-returns
 returns c =
-    let start = c .before .before .before .before .before .before .before .before .before .before in
+    let start = c .before .before .before .before .before .before .before .before .before .before .before in
     let H = c .before .before .before .hold .ensures in
     tried-drop (start .pre .0) (start .pre .1) (start .pre .2) refl (c .before .before .before .before .before .before .before .copy .ensures) (omega arith) (H .kept) (H .exact) (c .if1 .taken)
 
@@ -36,7 +36,7 @@ same-length c = returns c .kept-in .size
 
 try-each-requires : tie.Need-try-each-requires
 try-each-requires c κs =
-    let start = c .before .before .before .before .before .before .before .before .before .before .before in
+    let start = c .before .before .before .before .before .before .before .before .before .before .before .before in
     let H = c .before .before .before .before .hold .ensures in
     let T = tried-again (start .pre .0) (start .pre .1) (start .pre .2) refl (c .before .before .before .before .before .before .before .before .copy .ensures) (omega arith) (H .kept) (H .exact) in
     let S = tried-saving (start .pre .0) (start .pre .1) (start .pre .2) refl (c .before .before .before .before .before .before .before .before .copy .ensures) (omega arith) (H .kept) (H .exact) (H .saved) in
@@ -44,7 +44,7 @@ try-each-requires c κs =
 
 returns-2 : tie.Need-returns-2
 returns-2 c =
-    let start = c .before .before .before .before .before .before .before .before .before .before .before .before .before .before in
+    let start = c .before .before .before .before .before .before .before .before .before .before .before .before .before .before .before in
     let H = c .before .before .before .before .before .before .before .hold .ensures in
     let T = tried-again (start .pre .0) (start .pre .1) (start .pre .2) refl (c .before .before .before .before .before .before .before .before .before .before .before .copy .ensures) (omega arith) (H .kept) (H .exact) in
     tried-more (start .pre .1) T (tried-wider (omega arith) (c .before .before .try-each .ensures))

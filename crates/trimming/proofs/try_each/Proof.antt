@@ -10,10 +10,10 @@ use Rattle.trimming.proofs.try_each.Statement.{statement}
 use Rattle.trimming.proofs.try_each.Tie as tie
 
 abbrev Inv-loop : tie.InvT-loop
-Inv-loop work₀ size len kept i m n joins s t made₀ j₀ work made j = (j ≤ m) × Tried 30096 size len (s .0) (t .0) work₀ work kept i j n made
+Inv-loop work₀ q kept i m joins made₀ j₀ work made j = (j ≤ m) × Tried 30096 (q .size) (q .len) (q .s .0) (q .t .0) work₀ work kept i j (q .n) made
 
 abbrev μ-loop : tie.MeasureT-loop
-μ-loop work₀ size len kept i m n joins s t made₀ j₀ work made j = m - j
+μ-loop work₀ q kept i m joins made₀ j₀ work made j = m - j
 
 loop-holds : tie.Need-loop-holds Inv-loop μ-loop
 loop-holds c = (c .before .pre .1, tried-start (c .before .pre .0))

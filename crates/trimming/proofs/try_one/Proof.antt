@@ -19,7 +19,7 @@ add-copy c = search needs
 
 copy-requires : tie.Need-copy-requires
 copy-requires c κs =
-    let start = c .before .before in
+    let start = c .before .before .before in
     (start .pre .0 .loaded .long, omega (arith, start .pre .0 .few, start .pre .0 .short, start .pre .1), omega (arith, start .pre .0 .few, start .pre .0 .short, start .pre .1))
 
 add-resume : tie.Need-add-resume
@@ -27,13 +27,13 @@ add-resume c = search needs
 
 resume-requires : tie.Need-resume-requires
 resume-requires c κs =
-    let start = c .before .before .before .before .before .before in
+    let start = c .before .before .before .before .before .before .before in
     let T = start .pre .0 in
     (tried-listed T (omega arith) (omega (arith, start .pre .1)) refl (c .before .before .before .copy .ensures), tried-held T (omega arith) (omega (arith, start .pre .1)) refl (c .before .before .before .copy .ensures) (start .pre .2), T .s-tag, T .t-tag)
 
 returns : tie.Need-returns
 returns c =
-    let start = c .before .before .before .before .before .before .before .before .before .before in
+    let start = c .before .before .before .before .before .before .before .before .before .before .before in
     let R = c .before .before .before .resume .ensures in
     tried-drop (start .pre .0) (omega arith) (omega (arith, start .pre .1)) refl (c .before .before .before .before .before .before .before .copy .ensures) (omega arith) (R .kept) (R .exact) (c .if1 .taken)
 
@@ -45,7 +45,7 @@ add-copy-2 c = search needs
 
 copy-requires-2 : tie.Need-copy-requires-2
 copy-requires-2 c κs =
-    let start = c .before .before .before .before .before .before .before .before .before .before .before in
+    let start = c .before .before .before .before .before .before .before .before .before .before .before .before in
     (omega (arith, start .pre .0 .loaded .long, c .before .before .before .before .before .before .before .before .copy .ensures .kept .size, c .before .before .before .before .resume .ensures .kept .size), omega (arith, start .pre .0 .few, start .pre .0 .short), omega (arith, start .pre .0 .short, start .pre .1))
 
 add-result : tie.Need-add-result
@@ -53,7 +53,7 @@ add-result c = search needs
 
 returns-2 : tie.Need-returns-2
 returns-2 c =
-    let start = c .before .before .before .before .before .before .before .before .before .before .before .before .before .before in
+    let start = c .before .before .before .before .before .before .before .before .before .before .before .before .before .before .before in
     let R = c .before .before .before .before .before .before .before .resume .ensures in
     rw (add-one (start .args .kept)) (tried-keep (start .pre .0) (omega arith) (omega (arith, start .pre .1)) refl (c .before .before .before .before .before .before .before .before .before .before .before .copy .ensures) (omega arith) (R .kept) (R .exact) (add-one (start .args .i)) (c .before .before .copy2 .ensures) (c .before .before .before .before .if1 .left))
 
