@@ -1,7 +1,6 @@
 -- `single` meets its contract. A key that is not found is no other's.
 -- Assumes nothing.
-use borrow.Author.Needs.{needs}
-use mathlib.Core.Path.{sym, _∙_}
+use mathlib.Core.Path.{refl, sym, _∙_}
 use mathlib.Core.Bool.{true≢false}
 use Rattle.table.proofs.Frame.{within-refl}
 use Rattle.passes.proofs.Steps.{found-room}
@@ -17,7 +16,7 @@ abbrev at-start : tie.After-find → tie.Start
 at-start a = a .before .before .before
 
 same-length : tie.Need-same-length
-same-length c = search needs
+same-length c = refl
 
 returns : tie.Need-returns
 returns c = (within-refl _, λ e. absurd (true≢false (sym e)))

@@ -1,6 +1,5 @@
 -- `equate` meets its contract. The equation makes its two tags equal; once they have one label, nothing contradicts it.
 -- Assumes nothing.
-use borrow.Author.Needs.{needs}
 use native.Mathlib.Omega.{arith}
 use Rattle.passes.proofs.equate.Statement.{statement}
 use Rattle.passes.proofs.equate.Tie as tie
@@ -24,7 +23,7 @@ meet-requires : tie.Need-meet-requires
 meet-requires c κs = let a = c .before in let p = at-start a .pre in equate-asks (p .0) (p .1) (a .before .before .before .before .listed .ensures) (a .before .before .left .ensures) (a .right .ensures)
 
 same-length : tie.Need-same-length
-same-length c = search needs
+same-length c = c .before .before .meet .ensures .kept .size
 
 returns : tie.Need-returns
 returns c = let a = c .before .before .before .before in let p = at-start a .pre in equate-done (p .0) (p .1) (a .before .before .before .before .listed .ensures) (a .before .before .left .ensures) (a .right .ensures) (c .before .before .meet .ensures)

@@ -1,6 +1,5 @@
 -- `find` meets its contract. The search goes along the chain of the key's bucket, and finds what the table has for the key.
 -- Assumes nothing.
-use borrow.Author.Needs.{needs}
 use mathlib.Core.Path.{_≡_, ap, _∙_}
 use native.Mathlib.Omega.{arith}
 use denote.Ref.{now}
@@ -20,7 +19,7 @@ key-requires : tie.Need-key-requires
 key-requires c κs = let s = c .before .before in row-readable (s .pre .listed) (s .args .i) (s .pre .place) _ (c .listed .ensures)
 
 bucket-requires : tie.Need-bucket-requires
-bucket-requires c κs = search needs
+bucket-requires c κs = tt
 
 head-requires : tie.Need-head-requires
 head-requires c κs = let s = c .before .before .before .before in (s .pre .listed .loaded .long, rw (c .bucket .ensures) (omega (arith, bucket-low (s .args .task .few) (c .before .key .result), width-most (s .args .task .few))))

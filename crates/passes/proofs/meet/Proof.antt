@@ -1,7 +1,6 @@
 -- `meet` meets its contract. Labels that differ are due to be joined, and labels that agree are left.
 -- Assumes nothing.
-use borrow.Author.Needs.{needs}
-use mathlib.Core.Path.{sym, _∙_}
+use mathlib.Core.Path.{refl, sym, _∙_}
 use native.Mathlib.Omega.{arith}
 use Rattle.passes.proofs.meet.Statement.{statement}
 use Rattle.passes.proofs.meet.Tie as tie
@@ -18,7 +17,7 @@ abbrev at-start : tie.After-label2 → tie.Start
 at-start l = l .before .before .before .before .before
 
 same-length : tie.Need-same-length
-same-length c = search needs
+same-length c = refl
 
 returns : tie.Need-returns
 returns c = let l = c .before .before .before in meet-stay (at-start l .pre) (sym (l .before .before .label .ensures) ∙ c .if1 .taken ∙ l .label2 .ensures)
@@ -30,7 +29,7 @@ add-result : tie.Need-add-result
 add-result c = let p = at-start (c .before .before .before .before .before .before .before) .pre in record { fits = omega (arith, p .state .total, p .state .listed .loaded .few) }
 
 same-length-2 : tie.Need-same-length-2
-same-length-2 c = search needs
+same-length-2 c = c .before .before .join .ensures .kept .size
 
 returns-2 : tie.Need-returns-2
 returns-2 c = meet-joined (at-start (c .before .before .before .before .before .before .before) .pre) (c .before .before .join .ensures)

@@ -1,6 +1,5 @@
 -- `step` meets its contract. A record is an equation or an application.
 -- Assumes nothing.
-use borrow.Author.Needs.{needs}
 use native.Mathlib.Omega.{arith}
 use denote.Ref.{now}
 use Rattle.passes.proofs.step.Statement.{statement}
@@ -25,13 +24,13 @@ apply-requires c κs =
     (s .pre, eqn-is (now (s .args .work)) (s .args .i) _ _ _ (c .before .before .before .before .listed .ensures) (c .before .before .is-equation .ensures) (c .before .if1 .left))
 
 same-length : tie.Need-same-length
-same-length c = search needs
+same-length c = c .before .before .equate .ensures .kept .size
 
 returns : tie.Need-returns
 returns c = c .before .before .equate .ensures
 
 same-length-2 : tie.Need-same-length-2
-same-length-2 c = search needs
+same-length-2 c = c .before .before .apply .ensures .kept .size
 
 returns-2 : tie.Need-returns-2
 returns-2 c = c .before .before .apply .ensures

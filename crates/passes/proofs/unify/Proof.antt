@@ -1,7 +1,6 @@
 -- `unify` meets its contract. What the table has for a key is an application with that key, so the two have equal
 -- argument labels, and their results are equal by the list's records.
 -- Assumes nothing.
-use borrow.Author.Needs.{needs}
 use native.Mathlib.Omega.{arith}
 use Rattle.passes.proofs.unify.Statement.{statement}
 use Rattle.passes.proofs.unify.Tie as tie
@@ -31,7 +30,7 @@ meet-requires : tie.Need-meet-requires
 meet-requires c κs = let a = c .before in unify-asks (at-start a .pre) (a .before .before .before .before .before .before .listed .ensures) (a .before .before .before .before .listed2 .ensures) (a .before .before .result .ensures) (a .result2 .ensures)
 
 same-length : tie.Need-same-length
-same-length c = search needs
+same-length c = c .before .before .meet .ensures .kept .size
 
 returns : tie.Need-returns
 returns c = let a = c .before .before .before .before in unify-done (at-start a .pre) (a .before .before .before .before .before .before .listed .ensures) (a .before .before .before .before .listed2 .ensures) (a .before .before .result .ensures) (a .result2 .ensures) (c .before .before .meet .ensures)
