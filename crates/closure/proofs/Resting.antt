@@ -16,10 +16,11 @@ use Rattle.table.proofs.Frame.{seen-within, within-trans, within-wider}
 use Rattle.labels.specs.Parts.{Fresh, Preserved, Restored}
 use Rattle.labels.proofs.Views.{few-room, records-same, fresh-labels, fresh-total}
 use Rattle.closure.specs.Closing.{Listed, Entailing, Saved, Holding}
-use Rattle.closure.specs.declared.Task.{Task}
-use Rattle.closure.specs.State.{State, Rested, apart}
-use Rattle.closure.proofs.Rows.{valid-closed}
-use Rattle.closure.proofs.Views.{listed-same}
+use Rattle.passes.specs.declared.Task.{Task}
+use Rattle.passes.specs.State.{State, Rested}
+use Rattle.closure.specs.State.{apart}
+use Rattle.passes.proofs.Rows.{valid-closed}
+use Rattle.passes.proofs.Views.{listed-same}
 
 -- A list on its own.
 pub entails-start : {N len n : ℕ} {w w′ : List ℕ} {t : Task} → t ≡ apart N len n (leb n 60) → Listed N len n w → Fresh w w′ → State t w′ 0

@@ -5,7 +5,7 @@ use native.Mathlib.Omega.{arith}
 use native.Mathlib.Numerals.{add-one}
 use mathlib.Core.Path.{_≡_, refl, sym, ap, _∙_}
 use mathlib.Core.Logic.{_≢_, inl}
-use mathlib.Core.Bool.{true, false}
+use mathlib.Core.Bool.{true, false, true≢false}
 use mathlib.Core.List.{List}
 use lib.Dec.{leb}
 use lib.ListN.{length, set}
@@ -16,10 +16,11 @@ use Rattle.labels.specs.Chain.{look}
 use Rattle.labels.specs.Parts.{reach, width, nextIn, headIn, Cleared, Restored}
 use Rattle.labels.proofs.Chain.{chains-none, filled-none, below, chains-insert, filled-insert}
 use Rattle.labels.proofs.Views.{bucket-low, head-is, few-room, lefts, rights, put-frame, put-heads, put-nexts}
-use Rattle.closure.specs.declared.Task.{Task}
+use Rattle.passes.specs.declared.Task.{Task}
 use Rattle.closure.specs.Closing.{Listed, Telling}
-use Rattle.closure.specs.State.{keyOf, apart, Singled}
-use Rattle.closure.proofs.Views.{keys-same, listed-same}
+use Rattle.passes.specs.State.{keyOf, bucketIn, linkIn, Finding}
+use Rattle.closure.specs.State.{apart, Singled}
+use Rattle.passes.proofs.Views.{keys-same, listed-same}
 
 pub alone-room : {N len n : ℕ} {t : Task} → t ≡ apart N len n (leb n 60) → n ≤ 4000 → t .places ≤ reach (t .few)
 alone-room {n = n} e l = rw e (few-room n l)
@@ -33,7 +34,7 @@ single-none {t} {w} {w′} l c = record {
 }
 
 -- Place i, whose key was not found, goes into the table.
-module _ {t : Task} {w : List ℕ} {i : ℕ} (s : Singled t w i) (long : 32768 ≤ length w) (place : i < t .places) (z : look (width (t .few)) (keyOf w) (headIn (t .few) w) (nextIn (t .few) w) (keyOf w i) ≡ 0) where
+module _ {t : Task} {w : List ℕ} {i : ℕ} (s : Singled t w i) (long : 32768 ≤ length w) (place : i < t .places) (z : linkIn t w i ≡ 0) where
   room : i < reach (t .few)
   room = omega (arith, place, s .room)
 
@@ -63,8 +64,11 @@ module _ {t : Task} {w : List ℕ} {i : ℕ} (s : Singled t w i) (long : 32768 �
       other : (j : ℕ) → j < i → keyOf w j ≢ keyOf w i
       other j l q = let g = s .filled .found j l refl in let y : look (width (t .few)) (keyOf w) (headIn (t .few) w) (nextIn (t .few) w) (keyOf w j) ≡ 0 = rw q z in omega arith
 
-  pub single-new : (w′ : List ℕ) (x b : ℕ) → x ≡ keyOf w i → b ≡ x % width (t .few) → w′ ≡ set (set w (22003 + i) (headOf w b)) (26003 + b) (i + 1) → Within 22003 30096 w w′ × Singled t w′ (i + 1)
-  single-new w′ x b ex eb e = rw add-one (new w′ (rw (head-is (t .few) w (x % width (t .few)) (bucket-low (t .few) x), ex) at (rw eb at e)))
+  pub single-new : (w′ : List ℕ) (b : ℕ) → b ≡ bucketIn t w i → w′ ≡ set (set w (22003 + i) (headOf w b)) (26003 + b) (i + 1) → Within 22003 30096 w w′ × Singled t w′ (i + 1)
+  single-new w′ b eb e = rw add-one (new w′ (rw (head-is (t .few) w (bucketIn t w i) (bucket-low (t .few) (keyOf w i))) at (rw eb at e)))
+
+pub single-finding : {t : Task} {w : List ℕ} {i : ℕ} → Listed (t .size) (t .len) (t .places) w → Singled t w i → i < t .places → Finding t w i
+single-finding h s l = record { listed = h; place = l; room = s .room; heads = s .chains .heads; falls = s .chains .falls }
 
 -- From the list as it was: what `single` needs, and what it tells in the end.
 module _ {N len n : ℕ} {t : Task} {w w₁ w₂ : List ℕ} (e : t ≡ apart N len n (leb n 60)) (h : Listed N len n w) (r : Restored w w₁) (f : Within 22003 30096 w₁ w₂) where
@@ -90,4 +94,4 @@ module _ {N len n : ℕ} {t : Task} {w w₁ w₂ : List ℕ} (e : t ≡ apart N 
   }
 
   pub single-failed : Telling n w w₂ false
-  single-failed = record { kept = single-frame; apart = λ q. let z : _≡_ {A = ℕ} 0 1 = cc in absurd (omega arith) }
+  single-failed = record { kept = single-frame; apart = λ q. absurd (true≢false (sym q)) }

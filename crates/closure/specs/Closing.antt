@@ -1,20 +1,16 @@
 -- The promises of the closure's calls.
 -- Assumes nothing.
-use Prim.Native.Nat.{ℕ, _+_, _≤_, _<_}
+use Prim.Native.Nat.{ℕ, _+_, _<_}
 use mathlib.Core.Path.{_≡_}
 use mathlib.Core.Logic.{_↔_}
 use mathlib.Core.Bool.{Bool, true}
 use mathlib.Core.List.{List, List·Memᴰ}
 use Rattle.meaning.specs.Following.{Follows, Those, Only}
 use Rattle.meaning.specs.Labels.{Labels, classes}
-use Rattle.table.specs.Map.{leftOf, rightOf, listOf, markOf, savedOf, recordsIn, listIn, Loaded, Within}
+use Rattle.table.specs.Map.{leftOf, rightOf, listOf, markOf, savedOf, recordsIn, listIn, Within}
 use Rattle.labels.specs.Parts.{Own}
-
--- The first n numbers of the list name records of the table.
-pub record Listed (N len n : ℕ) (w : List ℕ) : Type 0 where
-  pub loaded : Loaded N len w
-  pub short : n ≤ 4000
-  pub named : (i : ℕ) → i < n → (1 ≤ listOf w i) × (listOf w i ≤ len)
+-- What the calls want of the list.
+pub use Rattle.passes.specs.Listed.{Listed}
 
 -- Whether s and t are equal by exactly the records of the list; only the closure's scratch is written.
 pub record Entailing (N len n s t : ℕ) (w w′ : List ℕ) (answer : Bool) : Type 0 where

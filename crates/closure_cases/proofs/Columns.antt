@@ -18,7 +18,7 @@ use Rattle.table.proofs.Columns.{stored, loaded-none, loaded-equation, loaded-a
 use Rattle.closure.specs.Closing.{Listed, Entailing}
 use Rattle.history.specs.Closing.{Closing}
 use Rattle.labels.proofs.Views.{loaded-same}
-use Rattle.closure.proofs.Views.{listed-same}
+use Rattle.passes.proofs.Views.{listed-same}
 
 -- One record more is loaded: the list is kept.
 record-listed : {N len n : ℕ} {w w′ : List ℕ} → Listed N len n w → Loaded N (len + 1) w′ × Within 0 12003 w w′ → Listed N (len + 1) n w′

@@ -25,6 +25,14 @@ pub const FEW: usize = 60;
 
 pub const FEW_BUCKETS: usize = 61;
 
+// Where the few links and the few heads end.
+const FEW_NEXT: usize = NEXT + FEW;
+
+const FEW_HEADS: usize = HEADS + FEW_BUCKETS;
+
+// How far behind its label a tag's saved label stands.
+const GAP: usize = SAVED - LABEL;
+
 fn wide(x: u16) -> usize
     ensures { λ r. ⌜ r ≡ x ⌝ }
 {
@@ -114,7 +122,7 @@ pub fn save(work: &mut [u16])
     requires { ⌜ 32768 ≤ length (now work) ⌝ }
     ensures { λ _. ⌜ Preserved (now (work .entry)) (now (work .exit)) ⌝ }
 {
-    raise(&mut work[LABEL..SPARE], SAVED - LABEL);
+    raise(&mut work[LABEL..SPARE], GAP);
 }
 
 // The labels are those that were saved.
@@ -122,7 +130,7 @@ pub fn restore(work: &mut [u16])
     requires { ⌜ 32768 ≤ length (now work) ⌝ }
     ensures { λ _. ⌜ Restored (now (work .entry)) (now (work .exit)) ⌝ }
 {
-    lower(&mut work[LABEL..SPARE], SAVED - LABEL);
+    lower(&mut work[LABEL..SPARE], GAP);
 }
 
 // No place stands in a chain.
@@ -137,8 +145,8 @@ fn clear_few(work: &mut [u16])
     requires { ⌜ 32768 ≤ length (now work) ⌝ }
     ensures { λ _. ⌜ Cleared true (now (work .entry)) (now (work .exit)) ⌝ }
 {
-    fill(&mut work[NEXT..NEXT + FEW], 0);
-    fill(&mut work[HEADS..HEADS + FEW_BUCKETS], 0);
+    fill(&mut work[NEXT..FEW_NEXT], 0);
+    fill(&mut work[HEADS..FEW_HEADS], 0);
 }
 
 pub fn clear(work: &mut [u16], few: bool)

@@ -14,7 +14,7 @@ use Rattle.table.proofs.Frame.{seen-at, seen-within, gather-in, length-gather, 
 use Rattle.history.specs.Past.{Past}
 use Rattle.closure.specs.Closing.{Listed}
 use Rattle.following.proofs.Kept.{kept-loaded, kept-past}
-use Rattle.sparing.proofs.Gathering.{list-hit, list-miss}
+use Rattle.listing.proofs.Gathering.{list-hit, list-miss}
 use Rattle.reasons.specs.Explaining.{Explained}
 use Rattle.reasons.specs.declared.Answer.the-variants.{Because}
 use Rattle.reason_cases.specs.Front.{Fronted}

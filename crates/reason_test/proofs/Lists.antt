@@ -21,10 +21,10 @@ use Rattle.meaning.proofs.Trim.{member-le-last}
 use Rattle.table.specs.Map.{listOf, listIn, recordsIn, gather, Within}
 use Rattle.table.proofs.Frame.{seen-in, seen-within, within-refl, within-trans, within-wider, within-set, length-gather, gather-same, gather-in, in-gather}
 use Rattle.closure.specs.Closing.{Listed, Entailing}
-use Rattle.sparing.specs.Listing.{waitingIn}
-use Rattle.sparing.specs.Trimming.{Followed, Pruned}
+use Rattle.listing.specs.Listing.{waitingIn}
+use Rattle.trimming.specs.Trimming.{Followed, Pruned}
 use Rattle.reasons.specs.Rising.{Numbered, Sorted}
-use Rattle.sparing.proofs.Gathering.{list-hit, list-miss}
+use Rattle.listing.proofs.Gathering.{list-hit, list-miss}
 use Rattle.following.proofs.Kept.{kept-records, kept-loaded, kept-past}
 use Rattle.report_read.proofs.Read.{is-not, is-so}
 use Rattle.reason_test.specs.declared.Question.{Question}

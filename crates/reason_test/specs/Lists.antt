@@ -9,7 +9,7 @@ use Rattle.meaning.specs.Following.{Rec, Follows, Only, Without}
 use Rattle.meaning.specs.Reasons.{Above, lastOf}
 use Rattle.table.specs.Map.{listOf, listIn, recordsIn, Within}
 use Rattle.closure.specs.Closing.{Listed}
-use Rattle.sparing.specs.Listing.{waitingIn}
+use Rattle.listing.specs.Listing.{waitingIn}
 use Rattle.reason_test.specs.declared.Question.{Question}
 use Rattle.reason_test.specs.Posed.{Posed}
 

@@ -60,7 +60,7 @@ fn put_waiting(work: &mut [u16], count: usize)
     let mut i = 0;
     while i < count {
         let r = table::listed(work, i);
-        table::put_listed(work, sparing::listing::WAITING + i, r);
+        table::put_listed(work, listing::WAITING + i, r);
         i += 1;
     }
 }
@@ -71,7 +71,7 @@ fn tight(work: &mut [u16], count: usize, q: Question) -> bool
     ensures { λ r. ⌜ Deciding (NoneSpare (now (work .entry)) q count) (now (work .entry)) (now (work .exit)) r ⌝ }
 {
     put_waiting(work, count);
-    let kept = sparing::trimming::trim(work, q.size, q.len, count, q.s, q.t);
+    let kept = trimming::trim(work, q.size, q.len, count, q.s, q.t);
     reasons::rising::put_rising(work, q.len, kept) == count
 }
 

@@ -28,8 +28,8 @@ use Rattle.following.proofs.Kept.{kept-records, kept-joins, kept-past, kept-loa
 use Rattle.following.proofs.Known.{join-one, join-two}
 use Rattle.following.proofs.Moments.{met-first, met-join, met-later, met-never, made-by}
 use Rattle.following.proofs.Crossing.{kept-leader, unmarked-supported}
-use Rattle.sparing.specs.Listing.{waitingIn, Gathered}
-use Rattle.sparing.specs.Trimming.{Pruned, Followed}
+use Rattle.listing.specs.Listing.{waitingIn, Gathered}
+use Rattle.trimming.specs.Trimming.{Pruned, Followed}
 use Rattle.sparing.specs.Comparing.{Comparing}
 use Rattle.reasons.specs.Rising.{Numbered, Sorted}
 use Rattle.reasons.specs.Explaining.{Question, Explained, Joining, Reasoned}

@@ -1,6 +1,6 @@
 // Reasons: for two tags that are equal by the records before a question, a list of record numbers that is a reason. Document 01,
-// "Reasons". Rests on following, which marks the joins between the tags, on sparing, which lists their records and takes out the spare
-// ones, and on table.
+// "Reasons". Rests on following, which marks the joins between the tags, on listing, which lists their records, on sparing, which takes
+// out the spare ones, and on table.
 ghost use Prim.Native.Nat.{ℕ, _≤_, _<_};
 ghost use Rattle.reasons.specs.Explaining.{Question, Explained, Joining, Reasoned};
 use meaning::Tag;
@@ -28,8 +28,8 @@ fn reason(
 {
     following::tracing::unmark_all(work, joins);
     following::tracing::trace(work, s, t, b + 1);
-    let n = sparing::listing::list_marked(work, b + 1);
-    let kept = sparing::comparing::prune(work, size, len, b + 1, n, s, t);
+    let n = listing::list_marked(work, b + 1);
+    let kept = sparing::prune(work, size, len, b + 1, n, s, t);
     rising::put_rising(work, len, kept)
 }
 

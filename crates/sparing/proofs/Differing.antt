@@ -21,10 +21,10 @@ use Rattle.closure.specs.Closing.{Listed, Holding, Telling}
 use Rattle.following.specs.Tracing.{marked}
 use Rattle.following.proofs.Kept.{kept-left, kept-right, kept-first, kept-second, kept-records, kept-loaded}
 use Rattle.following.proofs.Known.{join-two, join-arguments}
-use Rattle.sparing.specs.Listing.{waitingIn}
-use Rattle.sparing.specs.Trimming.{Copied, Pruned, Followed}
+use Rattle.listing.specs.Listing.{waitingIn}
+use Rattle.trimming.specs.Trimming.{Copied, Pruned, Followed}
 use Rattle.sparing.specs.Comparing.{applied, Chosen, Firsts, Comparing, Compared}
-use Rattle.sparing.proofs.Gathering.{list-hit, list-miss}
+use Rattle.listing.proofs.Gathering.{list-hit, list-miss}
 
 -- The three ways through `list_first`.
 pub chosen-unmarked : (w : List ℕ) (a c : ℕ) → markOf w a ≢ 1 → Chosen w w a c c

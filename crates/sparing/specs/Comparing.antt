@@ -14,8 +14,8 @@ use Rattle.meaning.specs.Needed.{tags, Needed}
 use Rattle.table.specs.Map.{listOf, firstOf, secondOf, joinAt, recordsIn, Within}
 use Rattle.history.specs.Past.{Past}
 use Rattle.following.specs.Tracing.{marked}
-use Rattle.sparing.specs.Listing.{waitingIn}
-use Rattle.sparing.specs.Trimming.{Followed}
+use Rattle.listing.specs.Listing.{waitingIn}
+use Rattle.trimming.specs.Trimming.{Followed}
 
 -- The join of age a is marked, and it is of two applications.
 abbrev pub applied : List ℕ → ℕ → Bool

@@ -1,4 +1,1 @@
-pub mod Notes
-pub mod Listing
-pub mod Trimming
 pub mod Comparing

@@ -1,6 +1,5 @@
 -- `distinct` meets its contract. The first i records stand in the table, each with a key of its own.
 -- Assumes nothing.
-use borrow.Author.Needs.{needs}
 use mathlib.Core.Path.{_∙_}
 use Prim.Native.Nat.{_-_, _≤_}
 use native.Mathlib.Omega.{arith}
@@ -18,7 +17,7 @@ abbrev μ-loop : tie.MeasureT-loop
 μ-loop work₀ size len n task i₀ work i = n - i
 
 alone-requires : tie.Need-alone-requires Inv-loop μ-loop
-alone-requires c κs = search needs
+alone-requires c κs = tt
 
 restore-requires : tie.Need-restore-requires Inv-loop μ-loop
 restore-requires c κs = c .before .before .before .pre .loaded .long
@@ -37,7 +36,7 @@ single-requires c κs =
     (single-listed (l .before .before .before .before .before .before .before .before .before .alone .ensures) (s .pre) (l .before .before .before .before .before .before .before .restore .ensures) f, l .loop .inv .2, rw (l .before .before .before .before .before .before .before .before .before .alone .ensures) (omega arith))
 
 add-i : tie.Need-add-i Inv-loop μ-loop
-add-i c = search needs
+add-i c = record { fits = omega arith }
 
 loop-less : tie.Need-loop-less Inv-loop μ-loop
 loop-less c = omega arith

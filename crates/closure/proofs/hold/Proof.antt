@@ -1,6 +1,5 @@
 -- `hold` meets its contract. The labels that are saved are those of the closure of the list.
 -- Assumes nothing.
-use borrow.Author.Needs.{needs}
 use mathlib.Core.Path.{_∙_}
 use native.Mathlib.Omega.{arith}
 use Rattle.closure.proofs.Resting.{entails-start, hold-done}
@@ -11,7 +10,7 @@ fresh-requires : tie.Need-fresh-requires
 fresh-requires c κs = c .before .before .pre .0 .loaded .long
 
 alone-requires : tie.Need-alone-requires
-alone-requires c κs = search needs
+alone-requires c κs = tt
 
 settle-requires : tie.Need-settle-requires
 settle-requires c κs = entails-start (c .before .alone .ensures) (c .before .before .before .before .before .before .before .pre .0) (c .before .before .before .before .fresh .ensures)

@@ -1,6 +1,5 @@
 -- `resume` meets its contract. The saved labels are sound for the list, so that the closure may begin with them.
 -- Assumes nothing.
-use borrow.Author.Needs.{needs}
 use mathlib.Core.Path.{_∙_}
 use native.Mathlib.Omega.{arith}
 use Rattle.closure.proofs.Resting.{resume-start, entails-done}
@@ -11,7 +10,7 @@ restore-requires : tie.Need-restore-requires
 restore-requires c κs = c .before .before .pre .0 .loaded .long
 
 alone-requires : tie.Need-alone-requires
-alone-requires c κs = search needs
+alone-requires c κs = tt
 
 settle-requires : tie.Need-settle-requires
 settle-requires c κs = resume-start (c .before .alone .ensures) (c .before .before .before .before .before .before .before .pre .0) (c .before .before .before .before .before .before .before .pre .1) (c .before .before .before .before .restore .ensures)

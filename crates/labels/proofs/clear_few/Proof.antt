@@ -7,9 +7,6 @@ use Rattle.labels.proofs.Views.{cleared-few}
 use Rattle.labels.proofs.clear_few.Statement.{statement}
 use Rattle.labels.proofs.clear_few.Tie as tie
 
-add-fill : tie.Need-add-fill
-add-fill c = search needs
-
 sub-fill : tie.Need-sub-fill
 sub-fill c = search needs
 
@@ -21,9 +18,6 @@ part-fill-end c = search needs
 
 fill-requires : tie.Need-fill-requires
 fill-requires c κs = search needs
-
-add-fill-2 : tie.Need-add-fill-2
-add-fill-2 c = search needs
 
 sub-fill-2 : tie.Need-sub-fill-2
 sub-fill-2 c = search needs
@@ -47,12 +41,10 @@ pub clear-few-spec : {M : Type 1} → statement M
 clear-few-spec =
     tie.close
     (tie.spec
-    add-fill
     sub-fill
     part-fill-start
     part-fill-end
     fill-requires
-    add-fill-2
     sub-fill-2
     part-fill-start-2
     part-fill-end-2

@@ -16,9 +16,6 @@ part-lower-start c = search needs
 part-lower-end : tie.Need-part-lower-end
 part-lower-end c = search needs
 
-sub-lower-2 : tie.Need-sub-lower-2
-sub-lower-2 c = search needs
-
 lower-requires : tie.Need-lower-requires
 lower-requires c κs = search needs
 
@@ -35,7 +32,6 @@ restore-spec =
     sub-lower
     part-lower-start
     part-lower-end
-    sub-lower-2
     lower-requires
     same-length
     returns)

@@ -16,9 +16,6 @@ part-raise-start c = search needs
 part-raise-end : tie.Need-part-raise-end
 part-raise-end c = search needs
 
-sub-raise-2 : tie.Need-sub-raise-2
-sub-raise-2 c = search needs
-
 raise-requires : tie.Need-raise-requires
 raise-requires c κs = search needs
 
@@ -35,7 +32,6 @@ save-spec =
     sub-raise
     part-raise-start
     part-raise-end
-    sub-raise-2
     raise-requires
     same-length
     returns)
