@@ -3,6 +3,7 @@
 use native.Mathlib.Omega.{arith}
 use Prim.Native.Nat.{ℕ, _≤_}
 use mathlib.Core.Path.{_≡_}
+use mathlib.Core.Bool.{Bool, true, false}
 use mathlib.Core.List.{List}
 use denote.Ref.{now}
 use Rattle.meaning.specs.Following.{UpTo, Leader}
@@ -39,6 +40,9 @@ is-led-requires c κs = let start = c .before .before .before .before .before in
 leads : {N len n : ℕ} {w : List ℕ} → Past N len w n → (R x a l : ℕ) → R ≤ len → a ≡ ageAfter w n R → l ≡ leaderAt w a x → Leader (UpTo (recordsIn len w) R) x l
 leads {N} {len} {n} {w} P R x a l k e f = rw (f, e) (leader-after P R k x)
 
+true-or-false : {b : Bool} → b ≡ true → b ≡ false → ⊥
+true-or-false t f = let z : _≡_ {A = ℕ} 0 1 = cc in omega arith
+
 add-t10 : tie.Need-add-t10
 add-t10 c =
     let start = c .before .before .before .before .before .before .before in
@@ -54,7 +58,7 @@ returns-2 : tie.Need-returns-2
 returns-2 c =
     let start = c .before .before .before .before .before .before .before in
     let P = start .pre .0 .past in
-    led-wrong (leads P (start .args .q .before) _ _ _ (start .pre .0 .early) (c .before .before .before .before .age-after .ensures) (c .before .before .before .leader .ensures)) (leads P (start .args .q .before) _ _ _ (start .pre .0 .early) (c .before .before .before .before .age-after .ensures) (c .before .before .leader2 .ensures)) (now (start .args .report)) (start .args .at) (λ h. let t = c .before .is-led .ensures .1 h in let f = c .if1 .left in let z : _≡_ {A = ℕ} 0 1 = cc (t, f) in omega arith)
+    led-wrong (leads P (start .args .q .before) _ _ _ (start .pre .0 .early) (c .before .before .before .before .age-after .ensures) (c .before .before .before .leader .ensures)) (leads P (start .args .q .before) _ _ _ (start .pre .0 .early) (c .before .before .before .before .age-after .ensures) (c .before .before .leader2 .ensures)) (now (start .args .report)) (start .args .at) (λ h. true-or-false (c .before .is-led .ensures .1 h) (c .if1 .left))
 
 pub led-spec : {M : Type 1} → statement M
 led-spec =
