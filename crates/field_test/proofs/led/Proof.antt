@@ -3,12 +3,12 @@
 use native.Mathlib.Omega.{arith}
 use Prim.Native.Nat.{ℕ, _≤_}
 use mathlib.Core.Path.{_≡_}
-use mathlib.Core.Bool.{Bool, true, false}
 use mathlib.Core.List.{List}
 use denote.Ref.{now}
 use Rattle.meaning.specs.Following.{UpTo, Leader}
 use Rattle.table.specs.Map.{recordsIn}
 use Rattle.history.specs.Past.{Past, ageAfter}
+use Rattle.report_read.proofs.Read.{true-or-false}
 use Rattle.following.specs.Meeting.{leaderAt}
 use Rattle.following.proofs.Kept.{past-forest}
 use Rattle.following.proofs.Moments.{leader-after, age-after-most}
@@ -39,9 +39,6 @@ is-led-requires c κs = let start = c .before .before .before .before .before in
 -- What the table says at the age of a moment is the leader of that moment.
 leads : {N len n : ℕ} {w : List ℕ} → Past N len w n → (R x a l : ℕ) → R ≤ len → a ≡ ageAfter w n R → l ≡ leaderAt w a x → Leader (UpTo (recordsIn len w) R) x l
 leads {N} {len} {n} {w} P R x a l k e f = rw (f, e) (leader-after P R k x)
-
-true-or-false : {b : Bool} → b ≡ true → b ≡ false → ⊥
-true-or-false t f = let z : _≡_ {A = ℕ} 0 1 = cc in omega arith
 
 add-t10 : tie.Need-add-t10
 add-t10 c =
