@@ -3,7 +3,7 @@
 -- Assumes nothing.
 use Prim.Native.Nat.{ℕ, _+_, _≤_, _<_}
 use mathlib.Core.Path.{_≡_}
-use mathlib.Core.Bool.{true, false}
+use mathlib.Core.Bool.{Bool, true, false}
 use mathlib.Core.List.{List, [], _∷_}
 use lib.ListN.{length, getD, drop}
 use Rattle.meaning.specs.Following.{Rec, eq}
@@ -14,14 +14,18 @@ use Rattle.records.specs.declared.Record.{Record}
 use Rattle.records.specs.Table.{blank, placeOf}
 use Rattle.fill.specs.declared.Found.{Found}
 
+-- No record was found: at a question, which is passed over, or where nothing is to be found.
+abbrev pub noRecord : Bool → ℕ → Found
+noRecord question next = record { question = question; place = blank; next = next }
+
 -- What a field at a place gives: a record, a question to be passed over, or nothing.
 abbrev pub foundAt : ℕ → Field → Found
-foundAt at (bad n) = record { question = false; place = blank; next = at }
-foundAt at (header M) = record { question = false; place = blank; next = at }
+foundAt at (bad n) = noRecord false at
+foundAt at (header M) = noRecord false at
 foundAt at (item (noted r)) = record { question = false; place = placeOf r; next = at + spanOf (noted r) }
-foundAt at (item (ask s t)) = record { question = true; place = blank; next = at + 7 }
-foundAt at (item (explain s t)) = record { question = true; place = blank; next = at + 7 }
-foundAt at end = record { question = false; place = blank; next = at }
+foundAt at (item (ask s t)) = noRecord true (at + 7)
+foundAt at (item (explain s t)) = noRecord true (at + 7)
+foundAt at end = noRecord false at
 
 -- The first record of the items that stand at a place was found, and the items behind it stand at the next place.
 pub record First (job : List ℕ) (N : ℕ) (r : Rec) (rs : List Rec) (f : Found) : Type 0 where

@@ -5,8 +5,8 @@ ghost use Prim.Native.Nat.{_<_, _≤_};
 ghost use lib.ListN.{length};
 ghost use Rattle.job.specs.Reading.{fieldAt};
 ghost use Rattle.meaning.specs.Following.{eq, app};
-ghost use Rattle.records.specs.Table.{blank, placeOf};
-ghost use Rattle.fill.specs.Filling.{foundAt, Seeks, Filled};
+ghost use Rattle.records.specs.Table.{placeOf};
+ghost use Rattle.fill.specs.Filling.{foundAt, noRecord, Seeks, Filled};
 ghost use Rattle.fill.specs.Loading.{carry, Loadable, Carried};
 ghost use Rattle.fill.specs.Handing.{Handable, Handed};
 use job::Field;
@@ -51,15 +51,19 @@ fn application(a: Tag, b: Tag, c: Tag) -> Record
     }
 }
 
-// A place with no record.
-fn nothing() -> Record
-    ensures { λ r. ⌜ r ≡ blank ⌝ }
+// No record was found.
+fn no_record(question: bool, next: usize) -> Found
+    ensures { λ r. ⌜ r ≡ noRecord question next ⌝ }
 {
-    Record {
-        kind: 0,
-        a: Tag(0),
-        b: Tag(0),
-        c: Tag(0),
+    Found {
+        question,
+        place: Record {
+            kind: 0,
+            a: Tag(0),
+            b: Tag(0),
+            c: Tag(0),
+        },
+        next,
     }
 }
 
@@ -79,31 +83,11 @@ fn look(job: &[u8], at: usize) -> Found
             place: application(a, b, c),
             next: at + 9,
         },
-        Field::Ask(_, _) => Found {
-            question: true,
-            place: nothing(),
-            next: at + 7,
-        },
-        Field::Explain(_, _) => Found {
-            question: true,
-            place: nothing(),
-            next: at + 7,
-        },
-        Field::Bad(_) => Found {
-            question: false,
-            place: nothing(),
-            next: at,
-        },
-        Field::Header(_) => Found {
-            question: false,
-            place: nothing(),
-            next: at,
-        },
-        Field::End => Found {
-            question: false,
-            place: nothing(),
-            next: at,
-        },
+        Field::Ask(_, _) => no_record(true, at + 7),
+        Field::Explain(_, _) => no_record(true, at + 7),
+        Field::Bad(_) => no_record(false, at),
+        Field::Header(_) => no_record(false, at),
+        Field::End => no_record(false, at),
     }
 }
 

@@ -37,7 +37,7 @@ looked-counts (l.unread e) = inl refl
 looked-counts (l.cramped e h) = inl refl
 looked-counts (l.ready {N = N} {items = items} e h) = inr (record { size = N; items = items; reads = e; records = refl })
 
-viewed-counts : {job : List ℕ} {b : Bool} {n p N k : ℕ} → Viewed job b n p N k → (k ≡ 0) ⊎ Counts job k
+viewed-counts : {job : List ℕ} {b : Bool} {n p N k m : ℕ} → Viewed job b n p N k m → (k ≡ 0) ⊎ Counts job k
 viewed-counts (v.unread e) = inl refl
 viewed-counts (v.ready {N = N} {items = items} e) = inr (record { size = N; items = items; reads = e; records = refl })
 
@@ -70,7 +70,7 @@ module _ (job room : List ℕ) (t : List Record) (w : List ℕ) (s : Sight) (h :
     finished-ran n p l room′ w″ t″ (f.done e k o c) b = r.done h e k o (emptied job t w s h t′ w′ d c b)
 
 -- The recheck.
-module _ (job report : List ℕ) (t : List Record) (w : List ℕ) (s : Sight) (h : Lent job t w) (seen : Viewed job (s .ready) (s .number) (s .place) (s .size) (s .records)) where
+module _ (job report : List ℕ) (t : List Record) (w : List ℕ) (s : Sight) (h : Lent job t w) (seen : Viewed job (s .ready) (s .number) (s .place) (s .size) (s .records) (s .needed)) where
   pub viewed-handable : Handable job t w (s .records)
   viewed-handable = record { places = h .places; numbers = h .numbers; count = viewed-counts seen }
 

@@ -1,4 +1,4 @@
--- A table whose first 32,768 numbers were wiped is cleared; and a table that was written among them alone has the same rest.
+-- A table whose first 32,768 numbers became zero is cleared; and a table that was written among them alone has the same rest.
 -- Assumes nothing.
 use Prim.Native.Nat.{ℕ, zero, suc, _≤_}
 use native.Mathlib.Omega.{arith}
@@ -8,14 +8,15 @@ use mathlib.Core.List.{List, [], _∷_, _++_}
 use lib.ListN.{length, getD, take, drop, length-append, length-drop, List·getD-append}
 use lib.Seq.{drop-at, length-take-le}
 use Rattle.table.specs.Map.{Within}
-use Rattle.parts.specs.Clear.{Wiped, Cleared}
+use Rattle.labels.specs.Parts.{Fills}
+use Rattle.parts.specs.Clear.{Cleared}
 
-pub cleared-part : (w p : List ℕ) → 32768 ≤ length w → Wiped (take 32768 w) p → Cleared w (p ++ drop 32768 w)
-cleared-part w p h v =
-    let n : length p ≡ 32768 = v .size ∙ length-take-le 32768 w h in
+pub cleared-part : (w p : List ℕ) → 32768 ≤ length w → length p ≡ length (take 32768 w) → Fills p 0 → Cleared w (p ++ drop 32768 w)
+cleared-part w p h e z =
+    let n : length p ≡ 32768 = e ∙ length-take-le 32768 w h in
     record {
       size = length-append p (drop 32768 w) ∙ simp length-drop (omega arith);
-      zero = λ i l. List·getD-append p (drop 32768 w) 0 i (omega arith) ∙ v .zero i (omega (arith, length-take-le 32768 w h));
+      zero = λ i l. List·getD-append p (drop 32768 w) 0 i (omega arith) ∙ z i (omega arith);
       rest = drop-at p (drop 32768 w) 32768 n;
     }
 

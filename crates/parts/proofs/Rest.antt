@@ -46,7 +46,7 @@ looked-refused (l.unread e) q x = f.unread e x
 looked-refused (l.cramped e h) q x = f.cramped e h x
 looked-refused (l.ready e h) q x = let z : _≡_ {A = ℕ} 0 1 = cc in absurd (omega arith)
 
-viewed-refused : {job report w w′ : List ℕ} {b : Bool} {n p N k : ℕ} → Viewed job b n p N k → b ≡ false → Cleared w w′ → Weighed job report w n p w′
+viewed-refused : {job report w w′ : List ℕ} {b : Bool} {n p N k m : ℕ} → Viewed job b n p N k m → b ≡ false → Cleared w w′ → Weighed job report w n p w′
 viewed-refused (c.unread e) q x = c.unread e x
 viewed-refused (c.ready e) q x = let z : _≡_ {A = ℕ} 0 1 = cc in absurd (omega arith)
 

@@ -1,14 +1,9 @@
--- What is cleared: every number of a part, and the named places of the work table.
+-- What is cleared: the named places of the work table.
 -- Assumes nothing.
 use Prim.Native.Nat.{ℕ, _<_}
 use mathlib.Core.Path.{_≡_}
 use mathlib.Core.List.{List}
 use lib.ListN.{length, getD, drop}
-
--- Every number of a part is zero.
-pub record Wiped (l l′ : List ℕ) : Type 0 where
-  pub size : length l′ ≡ length l
-  pub zero : (i : ℕ) → i < length l → getD l′ i 0 ≡ 0
 
 -- The named places of the work table, the first 32,768, are zero and the rest is as it was.
 pub record Cleared (w w′ : List ℕ) : Type 0 where

@@ -6,7 +6,7 @@ use mathlib.Core.Path.{_≡_}
 use mathlib.Core.Bool.{Bool, true, false}
 use mathlib.Core.List.{List}
 use lib.ListN.{length}
-use Rattle.job.specs.Items.{Item, refused, accepted, recordsOf}
+use Rattle.job.specs.Items.{Item, refused, accepted, recordsOf, neededRoom}
 use Rattle.job.specs.Reading.{reading}
 use Rattle.table.specs.Map.{recordsIn, Loaded}
 use Rattle.report.specs.Report.{Sound}
@@ -17,16 +17,16 @@ use Rattle.parts.specs.declared.Finding.{Finding}
 use Rattle.parts.specs.declared.Sight.{Sight}
 use Rattle.parts.specs.Clear.{Cleared}
 
--- What is known of a job before anything is stored: a refusal, or N and the number of records.
-pub data Viewed (job : List ℕ) : Bool → ℕ → ℕ → ℕ → ℕ → Type 0 where
-  unread : {n p : ℕ} → reading job ≡ refused n p → Viewed job false n p 0 0
-  ready : {N : ℕ} {items : List Item} → reading job ≡ accepted N items → Viewed job true 0 0 N (length (recordsOf items))
+-- What is known of a job before anything is stored: a refusal, or N, the number of records and the room that a report needs.
+pub data Viewed (job : List ℕ) : Bool → ℕ → ℕ → ℕ → ℕ → ℕ → Type 0 where
+  unread : {n p : ℕ} → reading job ≡ refused n p → Viewed job false n p 0 0 0
+  ready : {N : ℕ} {items : List Item} → reading job ≡ accepted N items → Viewed job true 0 0 N (length (recordsOf items)) (neededRoom N 0 items)
 
 -- The part of a recheck that has no record table in sight begins with what was seen of the job, and where it may go on with the job's
 -- records in the columns, with tags below N.
 pub record Opened (job work : List ℕ) (s : Sight) : Type 0 where
   pub long : 32768 ≤ length work
-  pub viewed : Viewed job (s .ready) (s .number) (s .place) (s .size) (s .records)
+  pub viewed : Viewed job (s .ready) (s .number) (s .place) (s .size) (s .records) (s .needed)
   pub loaded : s .ready ≡ true → Loaded (s .size) (s .records) work
   pub columns : (N : ℕ) (items : List Item) → reading job ≡ accepted N items → s .ready ≡ true → recordsIn (s .records) work ≡ recordsOf items
 

@@ -1,9 +1,9 @@
 // The parts of the tool's calls that see no record table: what is known once the job has been read, and the rest of each call once its records
-// stand in the work table. Document 01, "What is lent, and each refusal". Rests on job_read, closure, answers and recheck.
+// stand in the work table. Document 01, "What is lent, and each refusal". Rests on job_read, labels, closure, answers and recheck.
 ghost use mathlib.Core.Path.{_≡_};
 ghost use Prim.Native.Nat.{ℕ, _≤_};
 ghost use lib.ListN.{length};
-ghost use Rattle.parts.specs.Clear.{Wiped, Cleared};
+ghost use Rattle.parts.specs.Clear.{Cleared};
 ghost use Rattle.parts.specs.Look.{Looked};
 ghost use Rattle.parts.specs.Finish.{Begun, Finished};
 ghost use Rattle.parts.specs.Weigh.{Viewed, Opened, Weighed, findingOf};
@@ -12,6 +12,7 @@ use history::close;
 use job::number_of;
 use job_read::Answer as Read;
 use job_read::read_job;
+use labels::fill;
 use recheck::Judgement;
 use recheck::judge;
 
@@ -31,13 +32,15 @@ pub struct Finding {
     pub place: usize,
 }
 
-// What is known once the job has been read: whether the run may go on, or the refusal; N, and the number of records.
+// What is known once the job has been read: whether the run may go on, or the refusal; N, the number of records, and the room
+// that the report needs, which is 0 for a refusal.
 pub struct Sight {
     pub ready: bool,
     pub number: u8,
     pub place: usize,
     pub size: usize,
     pub records: usize,
+    pub needed: usize,
 }
 
 // A number of two bytes, as a place.
@@ -47,9 +50,9 @@ fn wide(x: u16) -> usize
     x as usize
 }
 
-// Numbers 3 to 9, in their order.
-pub fn look(job: &[u8], room: usize) -> Sight
-    ensures { λ r. ⌜ Looked (now (job .entry)) room (r .ready) (r .number) (r .place) (r .size) (r .records) ⌝ }
+// Numbers 3 to 8, in their order.
+pub fn view(job: &[u8]) -> Sight
+    ensures { λ r. ⌜ Viewed (now (job .entry)) (r .ready) (r .number) (r .place) (r .size) (r .records) (r .needed) ⌝ }
 {
     match read_job(job) {
         Read::Refused { fault, place } => Sight {
@@ -58,43 +61,40 @@ pub fn look(job: &[u8], room: usize) -> Sight
             place,
             size: 0,
             records: 0,
+            needed: 0,
         },
         Read::Accepted {
             size,
             records,
             questions: _,
-            room: needed,
-        } => {
-            if room < needed {
-                Sight {
-                    ready: false,
-                    number: 9,
-                    place: 0,
-                    size: 0,
-                    records: 0,
-                }
-            } else {
-                Sight {
-                    ready: true,
-                    number: 0,
-                    place: 0,
-                    size: wide(size),
-                    records: wide(records),
-                }
-            }
-        }
+            room,
+        } => Sight {
+            ready: true,
+            number: 0,
+            place: 0,
+            size: wide(size),
+            records: wide(records),
+            needed: room,
+        },
     }
 }
 
-// Every number becomes 0.
-fn wipe(part: &mut [u16])
-    ensures { λ _. ⌜ Wiped (now (part .entry)) (now (part .exit)) ⌝ }
+// Numbers 3 to 9, in their order: a refusal needs no room, so 9 is last.
+pub fn look(job: &[u8], room: usize) -> Sight
+    ensures { λ r. ⌜ Looked (now (job .entry)) room (r .ready) (r .number) (r .place) (r .size) (r .records) ⌝ }
 {
-    let mut i = 0;
-    while i < part.len() {
-        part[i] = 0;
-        i += 1;
+    let s = view(job);
+    if room < s.needed {
+        return Sight {
+            ready: false,
+            number: 9,
+            place: 0,
+            size: 0,
+            records: 0,
+            needed: 0,
+        };
     }
+    s
 }
 
 // The named places of the work table become zero.
@@ -102,7 +102,7 @@ fn clear(work: &mut [u16])
     requires { ⌜ 32768 ≤ length (now work) ⌝ }
     ensures { λ _. ⌜ Cleared (now (work .entry)) (now (work .exit)) ⌝ }
 {
-    wipe(&mut work[0..NAMED]);
+    fill(&mut work[0..NAMED], 0);
 }
 
 // The rest of a run, with no record table in sight.
@@ -125,33 +125,6 @@ pub fn finish(job: &[u8], room: &mut [u8], work: &mut [u16], s: Sight) -> Answer
             place: s.place,
             length: 0,
         }
-    }
-}
-
-// Numbers 3 to 8, in their order.
-pub fn view(job: &[u8]) -> Sight
-    ensures { λ r. ⌜ Viewed (now (job .entry)) (r .ready) (r .number) (r .place) (r .size) (r .records) ⌝ }
-{
-    match read_job(job) {
-        Read::Refused { fault, place } => Sight {
-            ready: false,
-            number: number_of(fault),
-            place,
-            size: 0,
-            records: 0,
-        },
-        Read::Accepted {
-            size,
-            records,
-            questions: _,
-            room: _,
-        } => Sight {
-            ready: true,
-            number: 0,
-            place: 0,
-            size: wide(size),
-            records: wide(records),
-        },
     }
 }
 

@@ -130,6 +130,10 @@ module _ (report : List ℕ) (at : ℕ) where
       let e : length body ≡ n = p .1 in
       subst (λ (m : ℕ). FrontAt report at (Field (getD report at 0) m)) e (whole body (holds-field report at body (omega arith) (rw e s) (p .0)))
 
+-- One truth value is not both.
+pub true-or-false : {b : Bool} → b ≡ true → b ≡ false → ⊥
+true-or-false t f = let z : _≡_ {A = ℕ} 0 1 = cc in omega arith
+
 -- A test that is false where a fact fails, and one that says the fact.
 pub is-not : {A : Type 0} → (A → ⊥) → (false ≡ true) ↔ A
 is-not f = (λ e. let z : _≡_ {A = ℕ} 0 1 = ap (λ (b : Bool). cond b 1 0) e in absurd (omega arith), λ a. absurd (f a))

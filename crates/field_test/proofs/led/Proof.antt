@@ -8,6 +8,7 @@ use denote.Ref.{now}
 use Rattle.meaning.specs.Following.{UpTo, Leader}
 use Rattle.table.specs.Map.{recordsIn}
 use Rattle.history.specs.Past.{Past, ageAfter}
+use Rattle.report_read.proofs.Read.{true-or-false}
 use Rattle.following.specs.Meeting.{leaderAt}
 use Rattle.following.proofs.Kept.{past-forest}
 use Rattle.following.proofs.Moments.{leader-after, age-after-most}
@@ -54,7 +55,7 @@ returns-2 : tie.Need-returns-2
 returns-2 c =
     let start = c .before .before .before .before .before .before .before in
     let P = start .pre .0 .past in
-    led-wrong (leads P (start .args .q .before) _ _ _ (start .pre .0 .early) (c .before .before .before .before .age-after .ensures) (c .before .before .before .leader .ensures)) (leads P (start .args .q .before) _ _ _ (start .pre .0 .early) (c .before .before .before .before .age-after .ensures) (c .before .before .leader2 .ensures)) (now (start .args .report)) (start .args .at) (λ h. let t = c .before .is-led .ensures .1 h in let f = c .if1 .left in let z : _≡_ {A = ℕ} 0 1 = cc (t, f) in omega arith)
+    led-wrong (leads P (start .args .q .before) _ _ _ (start .pre .0 .early) (c .before .before .before .before .age-after .ensures) (c .before .before .before .leader .ensures)) (leads P (start .args .q .before) _ _ _ (start .pre .0 .early) (c .before .before .before .before .age-after .ensures) (c .before .before .leader2 .ensures)) (now (start .args .report)) (start .args .at) (λ h. true-or-false (c .before .is-led .ensures .1 h) (c .if1 .left))
 
 pub led-spec : {M : Type 1} → statement M
 led-spec =

@@ -40,44 +40,44 @@ add-t13 c =
 enum-told : tie.Need-enum-told
 enum-told c = search needs
 
-nothing-requires : tie.Need-nothing-requires
-nothing-requires c κs = search needs
-
-add-t15 : tie.Need-add-t15
-add-t15 c =
-    let s = c .before .before .before .before .before in
-    let e = sym (c .before .before .before .read .ensures) ∙ ap said (c .before .enum-told .given .1) in
+add-no-record : tie.Need-add-no-record
+add-no-record c =
+    let s = c .before .before .before .before in
+    let e = sym (c .before .before .read .ensures) ∙ ap said (c .enum-told .given .1) in
     record { fits = omega (arith, field-whole (now (s .args .job)) (s .args .at) _ tt e, s .good .0 .0) }
+
+no-record-requires : tie.Need-no-record-requires
+no-record-requires c κs = search needs
 
 enum-told-2 : tie.Need-enum-told-2
 enum-told-2 c = search needs
 
-nothing-requires-2 : tie.Need-nothing-requires-2
-nothing-requires-2 c κs = search needs
-
-add-t17 : tie.Need-add-t17
-add-t17 c =
-    let s = c .before .before .before .before .before in
-    let e = sym (c .before .before .before .read .ensures) ∙ ap said (c .before .enum-told2 .given .1) in
+add-no-record-2 : tie.Need-add-no-record-2
+add-no-record-2 c =
+    let s = c .before .before .before .before in
+    let e = sym (c .before .before .read .ensures) ∙ ap said (c .enum-told2 .given .1) in
     record { fits = omega (arith, field-whole (now (s .args .job)) (s .args .at) _ tt e, s .good .0 .0) }
+
+no-record-requires-2 : tie.Need-no-record-requires-2
+no-record-requires-2 c κs = search needs
 
 enum-told-3 : tie.Need-enum-told-3
 enum-told-3 c = search needs
 
-nothing-requires-3 : tie.Need-nothing-requires-3
-nothing-requires-3 c κs = search needs
+no-record-requires-3 : tie.Need-no-record-requires-3
+no-record-requires-3 c κs = search needs
 
 enum-told-4 : tie.Need-enum-told-4
 enum-told-4 c = search needs
 
-nothing-requires-4 : tie.Need-nothing-requires-4
-nothing-requires-4 c κs = search needs
+no-record-requires-4 : tie.Need-no-record-requires-4
+no-record-requires-4 c κs = search needs
 
 enum-told-5 : tie.Need-enum-told-5
 enum-told-5 c = search needs
 
-nothing-requires-5 : tie.Need-nothing-requires-5
-nothing-requires-5 c κs = search needs
+no-record-requires-5 : tie.Need-no-record-requires-5
+no-record-requires-5 c κs = search needs
 
 returns : tie.Need-returns
 returns c = rw (sym (c .before .before .before .before .read .ensures) ∙ ap said (c .before .before .field .given .1), c .equation .ensures)
@@ -86,19 +86,19 @@ returns-2 : tie.Need-returns-2
 returns-2 c = rw (sym (c .before .before .before .before .read .ensures) ∙ ap said (c .before .before .field2 .given .1), c .application .ensures)
 
 returns-3 : tie.Need-returns-3
-returns-3 c = rw (sym (c .before .before .before .read .ensures) ∙ ap said (c .before .enum-told .given .1), c .nothing .ensures)
+returns-3 c = rw (sym (c .before .before .before .read .ensures) ∙ ap said (c .before .enum-told .given .1)) (c .no-record .ensures)
 
 returns-4 : tie.Need-returns-4
-returns-4 c = rw (sym (c .before .before .before .read .ensures) ∙ ap said (c .before .enum-told2 .given .1), c .nothing2 .ensures)
+returns-4 c = rw (sym (c .before .before .before .read .ensures) ∙ ap said (c .before .enum-told2 .given .1)) (c .no-record2 .ensures)
 
 returns-5 : tie.Need-returns-5
-returns-5 c = rw (sym (c .before .before .before .read .ensures) ∙ ap said (c .before .enum-told3 .given .1), c .nothing3 .ensures)
+returns-5 c = rw (sym (c .before .before .before .read .ensures) ∙ ap said (c .before .enum-told3 .given .1)) (c .no-record3 .ensures)
 
 returns-6 : tie.Need-returns-6
-returns-6 c = rw (sym (c .before .before .before .read .ensures) ∙ ap said (c .before .enum-told4 .given .1), c .nothing4 .ensures)
+returns-6 c = rw (sym (c .before .before .before .read .ensures) ∙ ap said (c .before .enum-told4 .given .1)) (c .no-record4 .ensures)
 
 returns-7 : tie.Need-returns-7
-returns-7 c = rw (sym (c .before .before .before .read .ensures) ∙ ap said (c .before .enum-told5 .given .1), c .nothing5 .ensures)
+returns-7 c = rw (sym (c .before .before .before .read .ensures) ∙ ap said (c .before .enum-told5 .given .1)) (c .no-record5 .ensures)
 
 pub look-spec : {M : Type 1} → statement M
 look-spec =
@@ -112,17 +112,17 @@ look-spec =
     application-requires
     add-t13
     enum-told
-    nothing-requires
-    add-t15
+    add-no-record
+    no-record-requires
     enum-told-2
-    nothing-requires-2
-    add-t17
+    add-no-record-2
+    no-record-requires-2
     enum-told-3
-    nothing-requires-3
+    no-record-requires-3
     enum-told-4
-    nothing-requires-4
+    no-record-requires-4
     enum-told-5
-    nothing-requires-5
+    no-record-requires-5
     returns
     returns-2
     returns-3

@@ -115,7 +115,7 @@ abbrev τw : Ty
 
 -- what was seen of a job
 abbrev Seen : List ℕ → Sight → Type 0
-Seen job s = Viewed job (s .ready) (s .number) (s .place) (s .size) (s .records)
+Seen job s = Viewed job (s .ready) (s .number) (s .place) (s .size) (s .records) (s .needed)
 
 -- what the recheck promises of an answer
 abbrev Checks : List ℕ → List ℕ → List Record → List ℕ → Finding → List Record → List ℕ → Type 0

@@ -1,9 +1,21 @@
 -- `lines::put_field` meets its contract, by the cases of the field: a record adds nothing, a question and the end their lines.
 -- Assumes nothing.
 use borrow.Author.Needs.{needs}
+use Prim.Native.Nat.{ℕ}
+use mathlib.Core.Path.{_≡_, _∙_}
+use mathlib.Core.List.{List}
+use Rattle.line_text.specs.Line.{askLine}
+use Rattle.lines.specs.Lines.{explainLine}
 use Rattle.line_text.proofs.Puts.{put-as, put-nothing}
 use Rattle.lines.proofs.put_field.Statement.{statement}
 use Rattle.lines.proofs.put_field.Tie as tie
+
+-- The lines over equal numbers are one: as lemmas, since the search for them among all that is known takes seconds.
+ask-as : {s s′ t t′ l l′ m m′ : ℕ} → s ≡ s′ → t ≡ t′ → l ≡ l′ → m ≡ m′ → askLine s t l m ≡ askLine s′ t′ l′ m′
+ask-as p q u v = cc
+
+explain-as : {s s′ t t′ : ℕ} (b : ℕ) (ns : List ℕ) → s ≡ s′ → t ≡ t′ → explainLine s t b ns ≡ explainLine s′ t′ b ns
+explain-as b ns p q = cc
 
 enum-told : tie.Need-enum-told
 enum-told c = search needs
@@ -75,13 +87,13 @@ same-length : tie.Need-same-length
 same-length c = search needs
 
 returns-5 : tie.Need-returns-5
-returns-5 c = rw (c .before .before .before .before .before .before .before .before .before .before .before .field .given .1) (put-as (cc) (c .before .before .put-ask .ensures))
+returns-5 c = rw (c .before .before .before .before .before .before .before .before .before .before .before .field .given .1) (put-as (ask-as (c .before .before .before .before .before .before .before .before .shown .ensures) (c .before .before .before .before .before .before .before .shown2 .ensures) (c .before .before .before .before .before .wide .ensures ∙ c .before .before .before .before .before .before .number .ensures) (c .before .before .before .wide2 .ensures ∙ c .before .before .before .before .number2 .ensures)) (c .before .before .put-ask .ensures))
 
 same-length-2 : tie.Need-same-length-2
 same-length-2 c = search needs
 
 returns-6 : tie.Need-returns-6
-returns-6 c = rw (c .before .before .before .before .before .before .before .field2 .given .1) (put-as (cc) (c .before .before .put-explain .ensures))
+returns-6 c = rw (c .before .before .before .before .before .before .before .field2 .given .1) (put-as (explain-as _ _ (c .before .before .before .before .before .shown3 .ensures) (c .before .before .before .before .shown4 .ensures)) (c .before .before .put-explain .ensures))
 
 same-length-3 : tie.Need-same-length-3
 same-length-3 c = search needs

@@ -2,13 +2,12 @@
 -- The measure is what is left of the part.
 -- Assumes nothing.
 use borrow.Author.Needs.{needs}
-use mathlib.Core.Path.{_≡_}
+use mathlib.Core.Path.{ap, _∙_}
 use mathlib.Core.List.{List, [], _∷_}
 use Prim.Native.Nat.{ℕ, _-_, _≤_}
 use native.Mathlib.Omega.{arith}
 use denote.Ref.{now}
 use lib.Seq.{slice}
-use Rattle.job.specs.Reading.{numberAt}
 use Rattle.line_text.specs.Line.{parted}
 use Rattle.lines.specs.Lines.{numbersIn}
 use Rattle.line_text.specs.Put.{Half}
@@ -51,7 +50,7 @@ loop-again c =
     let report : List ℕ = now (start .args .report) in
     let p : ℕ = head .loop .p in
     let stop : ℕ = start .args .stop in
-    let e : parted (c .before .before .before .wide .result ∷ []) ≡ parted (numberAt report p ∷ []) = cc in (
+    let e = ap (λ (n : ℕ). parted (n ∷ [])) (c .before .before .before .wide .ensures ∙ c .before .before .before .before .number .ensures) in (
       omega (arith, c .before .before .before .before .before .before .loop-test .taken),
       half-more (half-as (numbers-next report p stop (omega (arith, c .before .before .before .before .before .before .loop-test .taken)) (start .pre .0)) (head .loop .inv .1))
           (put-as e (c .before .before .put-parted .ensures)),

@@ -1,11 +1,9 @@
 -- `lines::put_totals` meets its contract: the two numbers of the report's first field, as a line.
 -- Assumes nothing.
 use borrow.Author.Needs.{needs}
-use mathlib.Core.Path.{_≡_}
-use mathlib.Core.List.{List, [], _∷_}
+use mathlib.Core.Path.{ap₂, _∙_}
+use mathlib.Core.List.{[], _∷_}
 use Prim.Native.Nat.{ℕ}
-use denote.Ref.{now}
-use Rattle.job.specs.Reading.{numberAt}
 use Rattle.line_text.specs.Line.{line}
 use Rattle.lines.specs.Lines.{totalsLine}
 use Rattle.line_text.proofs.Puts.{put-as}
@@ -33,9 +31,9 @@ same-length c = search needs
 returns : tie.Need-returns
 unfolding totalsLine
 returns c =
-    let report : List ℕ = now (c .before .before .before .before .before .before .before .before .before .before .args .report) in
-    let e : line 84 (c .before .before .before .before .before .wide .result ∷ c .before .before .before .wide2 .result ∷ []) ≡ line 84 (numberAt report 3 ∷ numberAt report 5 ∷ []) = cc in
-    put-as e (c .before .before .put-pair .ensures)
+    let first = c .before .before .before .before .before .wide .ensures ∙ c .before .before .before .before .before .before .number .ensures in
+    let second = c .before .before .before .wide2 .ensures ∙ c .before .before .before .before .number2 .ensures in
+    put-as (ap₂ (λ (a b : ℕ). line 84 (a ∷ b ∷ [])) first second) (c .before .before .put-pair .ensures)
 
 pub put-totals-spec : {M : Type 1} → statement M
 put-totals-spec =

@@ -1,4 +1,4 @@
--- `parts::clear` meets its contract: the part that is wiped is the named places, and what lies behind it is not lent on.
+-- `parts::clear` meets its contract: the part that is filled with zero is the named places, and what lies behind it is not lent on.
 -- Assumes nothing.
 use borrow.Author.Needs.{needs}
 use Rattle.parts.proofs.Clearing.{cleared-part}
@@ -6,24 +6,24 @@ use Rattle.parts.proofs.clear.Statement.{statement}
 use Rattle.parts.proofs.clear.Tie as tie
 use denote.Ref.{now}
 
-sub-wipe : tie.Need-sub-wipe
-sub-wipe c = search needs
+sub-fill : tie.Need-sub-fill
+sub-fill c = search needs
 
-part-wipe-start : tie.Need-part-wipe-start
-part-wipe-start c = search needs
+part-fill-start : tie.Need-part-fill-start
+part-fill-start c = search needs
 
-part-wipe-end : tie.Need-part-wipe-end
-part-wipe-end c = search needs
+part-fill-end : tie.Need-part-fill-end
+part-fill-end c = search needs
 
-wipe-requires : tie.Need-wipe-requires
-wipe-requires c κs = search needs
+fill-requires : tie.Need-fill-requires
+fill-requires c κs = search needs
 
 same-length : tie.Need-same-length
 same-length c = search needs
 
 returns : tie.Need-returns
-returns c = cleared-part (now (c .before .before .before .before .before .args .work)) (c .before .before .wipe .last .0) (c .before .before .before .before .before .pre) (c .before .before .wipe .ensures)
+returns c = cleared-part (now (c .before .before .before .before .before .args .work)) (c .before .before .fill .last .0) (c .before .before .before .before .before .pre) (c .before .before .fill .kept .0) (c .before .before .fill .ensures)
 
 pub clear-spec : {M : Type 1} → statement M
 clear-spec =
-    tie.close (tie.spec sub-wipe part-wipe-start part-wipe-end wipe-requires same-length returns)
+    tie.close (tie.spec sub-fill part-fill-start part-fill-end fill-requires same-length returns)

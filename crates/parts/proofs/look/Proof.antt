@@ -1,60 +1,24 @@
--- `parts::look` meets its contract: reading answers its definition, and the needed room is compared last.
+-- `parts::look` meets its contract: the job is viewed, and the needed room is compared last.
 -- Assumes nothing.
 use borrow.Author.Needs.{needs}
-use Rattle.job_read.proofs.Telling.{told-refused, told-accepted}
-use Rattle.parts.specs.Look.{unread, cramped, ready}
+use Rattle.parts.proofs.Ready.{viewed-cramped, viewed-roomy}
 use Rattle.parts.proofs.look.Statement.{statement}
 use Rattle.parts.proofs.look.Tie as tie
-use Rattle.parts.proofs.look.Reads as reads
 use native.Mathlib.Omega.{arith}
-use denote.Ref.{now}
 
-read-job-requires : tie.Need-read-job-requires
-read-job-requires c κs = search needs
-
-enum-known-fault : tie.Need-enum-known-fault
-enum-known-fault c = search needs
-
-number-of-requires : tie.Need-number-of-requires
-number-of-requires c κs = search needs
-
-enum-known-size : tie.Need-enum-known-size
-enum-known-size c = search needs
-
-wide-requires : tie.Need-wide-requires
-wide-requires c κs = search needs
-
-wide-requires-2 : tie.Need-wide-requires-2
-wide-requires-2 c κs = search needs
+view-requires : tie.Need-view-requires
+view-requires c κs = search needs
 
 returns : tie.Need-returns
-returns c =
-    let j = c .before .before .before .before in
-    rw (c .number-of .ensures) (unread (told-refused (now (j .before .before .args .job)) (c .before .before .fault .given .0 .0) (c .before .before .fault .given .0 .1 .0) (rw (c .before .before .fault .given .1) at (j .read-job .ensures))))
+returns c = viewed-cramped (c .before .before .before .before .args .room) (c .before .before .view .ensures) (omega (arith, c .if1 .taken))
 
 returns-2 : tie.Need-returns-2
-returns-2 c =
-    let j = c .before .before .before .before in
-    let t = told-accepted (now (j .before .before .args .job)) _ _ _ _ (rw (c .before .before .size .given .1) at (j .read-job .ensures)) in
-    cramped (t .reads) (omega (arith, t .needed, c .if1 .taken))
-
-returns-3 : tie.Need-returns-3
-returns-3 c =
-    let e = c .before .before in
-    let j = e .before .before .before .before in
-    let t = told-accepted (now (j .before .before .args .job)) _ _ _ _ (rw (e .before .before .size .given .1) at (j .read-job .ensures)) in
-    rw (c .before .wide .ensures, c .wide2 .ensures, t .records) (ready (t .reads) (omega (arith, t .needed, e .if1 .left)))
+returns-2 c = viewed-roomy (c .before .before .before .before .args .room) (c .before .before .view .ensures) (omega (arith, c .if1 .left))
 
 pub look-spec : {M : Type 1} → statement M
 look-spec =
     tie.close
     (tie.spec
-    read-job-requires
-    enum-known-fault
-    number-of-requires
-    enum-known-size
-    wide-requires
-    wide-requires-2
+    view-requires
     returns
-    returns-2
-    returns-3)
+    returns-2)

@@ -3,7 +3,8 @@
 -- Assumes nothing.
 use borrow.Author.Needs.{needs}
 use Rattle.job_read.proofs.Telling.{told-refused, told-accepted}
-use Rattle.parts.specs.Weigh.{unread, ready}
+use Rattle.parts.specs.Weigh.{unread}
+use Rattle.parts.proofs.Ready.{taken-viewed}
 use Rattle.parts.proofs.view.Statement.{statement}
 use Rattle.parts.proofs.view.Tie as tie
 use denote.Ref.{now}
@@ -36,7 +37,7 @@ returns-2 c =
     let e = c .before .before in
     let j = e .before .before .before in
     let t = told-accepted (now (j .before .before .args .job)) _ _ _ _ (rw (e .before .size .given .1) at (j .read-job .ensures)) in
-    rw (c .before .wide .ensures, c .wide2 .ensures, t .records) (ready (t .reads))
+    rw (c .before .wide .ensures, c .wide2 .ensures) (taken-viewed t)
 
 pub view-spec : {M : Type 1} → statement M
 view-spec =

@@ -2,9 +2,9 @@
 -- Assumes nothing.
 use borrow.Author.Needs.{needs}
 use native.Mathlib.Omega.{arith}
-use Prim.Native.Nat.{ℕ}
-use mathlib.Core.Path.{_≡_, refl}
+use mathlib.Core.Path.{refl}
 use denote.Ref.{now}
+use Rattle.report_read.proofs.Read.{true-or-false}
 use Rattle.recheck.specs.Ended.{right, spare, wrong}
 use Rattle.field_test.proofs.Right.{pair-room}
 use Rattle.recheck.proofs.ended.Statement.{statement}
@@ -29,7 +29,7 @@ returns-2 c =
     spare h (omega (arith, pair-room (now (start .args .report)) (start .args .at) 143 _ _ (start .pre .0) h, c .if2 .left)) refl
 
 returns-3 : tie.Need-returns-3
-returns-3 c = wrong (λ h. let t = c .before .is-totals .ensures .1 h in let f = c .if1 .left in let z : _≡_ {A = ℕ} 0 1 = cc (t, f) in omega arith) refl
+returns-3 c = wrong (λ h. true-or-false (c .before .is-totals .ensures .1 h) (c .if1 .left)) refl
 
 pub ended-spec : {M : Type 1} → statement M
 ended-spec = tie.close (tie.spec is-totals-requires add-if2 add-t11 returns returns-2 returns-3)

@@ -10,7 +10,7 @@ use denote.Ref.{now}
 use Rattle.table.specs.Map.{listIn}
 use Rattle.report.specs.Report.{numbers}
 use Rattle.report_read.specs.Read.{Holds}
-use Rattle.report_read.proofs.Read.{is-not}
+use Rattle.report_read.proofs.Read.{is-not, true-or-false}
 use Rattle.report_read.proofs.Listing.{list-held-none, list-held-more, list-held-at}
 
 abbrev Inv-loop : tie.InvT-loop
@@ -41,7 +41,7 @@ returns : tie.Need-returns Inv-loop μ-loop
 returns c =
     let a = c .before .before .before .before .before .before .args in
     let l = c .before .before .before .loop in
-    is-not (λ h. let t = c .before .is-listed .ensures .1 (list-held-at (now (a .report)) (a .at) (now (a .work)) (a .count) (l .i) (c .before .before .loop-test .taken) h) in let f = c .if1 .left in let z : _≡_ {A = ℕ} 0 1 = cc (t, f) in omega arith)
+    is-not (λ h. true-or-false (c .before .is-listed .ensures .1 (list-held-at (now (a .report)) (a .at) (now (a .work)) (a .count) (l .i) (c .before .before .loop-test .taken) h)) (c .if1 .left))
 
 returns-2 : tie.Need-returns-2 Inv-loop μ-loop
 returns-2 c =
