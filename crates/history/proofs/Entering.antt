@@ -14,6 +14,7 @@ use Rattle.table.specs.Map.{leftOf, rightOf, labelOf, useOf, moreOf, stateOf, c
 use Rattle.table.proofs.Frame.{seen-in, seen-out, within-trans, within-wider, within-set, gather-in}
 use Rattle.labels.proofs.Chain.{below}
 use Rattle.labels.proofs.Views.{lefts, rights}
+use Rattle.index.specs.declared.Front.{Front}
 use Rattle.index.specs.State.{eqnAt, keyAt, Filing, Used, Queued, Indexed}
 use Rattle.index.proofs.Filing.{more, uses-eq, uses-app}
 use Rattle.index.proofs.Waiting.{queue-more, queue-put-app}
@@ -79,6 +80,14 @@ next-left {i = i} b low = omega (arith, row-left (b .standing .loaded) i low, b 
 
 pub next-right : {N len i : ℕ} {w : List ℕ} {n : ℕ} → Between N len i w n → i < len → rightOf w (suc i) < 1000
 next-right {i = i} b low = omega (arith, row-right (b .standing .loaded) i low, b .standing .loaded .few)
+
+-- It is counted.
+pub counted-open : {t : Front} {w : List ℕ} {n i first : ℕ} → t .places ≡ suc i → Open (front (t .size) (t .len) (suc i)) w n first → Open t w n first
+counted-open e o = rw (← e) at o
+
+-- The first that waits, as it is handed on.
+pub open-from : {t : Front} {w : List ℕ} {n a b : ℕ} → a ≡ b → Open t w n b → Open t w n a
+open-from e o = rw e o
 
 -- An application comes in.
 module _ {N len i : ℕ} {w : List ℕ} {n : ℕ} (b : Between N len i w n) (low : i < len) (app : eqnAt w i ≡ false) where

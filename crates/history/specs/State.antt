@@ -1,6 +1,6 @@
 -- Machinery: what holds of the table between two records, and before the first. No meaning rests on it.
 -- Assumes nothing.
-use Prim.Native.Nat.{ℕ, suc, _≤_}
+use Prim.Native.Nat.{ℕ, suc, _≤_, _<_}
 use mathlib.Core.Path.{_≡_}
 use mathlib.Core.Bool.{Bool}
 use mathlib.Core.List.{List}
@@ -14,6 +14,12 @@ front N len i = record { size = N; len = len; places = i }
 
 abbrev pub Between : ℕ → ℕ → ℕ → List ℕ → ℕ → Type 0
 Between N len i w n = Open (front N len i) w n 0
+
+-- The record of place i is to come in, and t counts it.
+pub record Coming (t : Front) (w : List ℕ) (i n : ℕ) : Type 0 where
+  pub between : Between (t .size) (t .len) i w n
+  pub low : i < t .len
+  pub counted : t .places ≡ suc i
 
 -- One more is in.
 pub record Admitted (N len i : ℕ) (w : List ℕ) (n : ℕ) (w′ : List ℕ) (n′ : ℕ) : Type 0 where

@@ -12,7 +12,7 @@ ghost use Rattle.table.specs.Map.{Loaded, Within};
 ghost use Rattle.index.specs.State.{eqnAt};
 ghost use Rattle.settling.specs.State.{Open};
 ghost use Rattle.history.specs.Closing.{Closing};
-ghost use Rattle.history.specs.State.{front, Between, Admitted, Unlinked, Begun};
+ghost use Rattle.history.specs.State.{Between, Coming, Admitted, Unlinked, Begun};
 use index::Front;
 use meaning::RecordNo;
 use meaning::Tag;
@@ -25,9 +25,9 @@ pub struct Totals {
 }
 
 // The application at place i comes in: it waits, and its arguments' lists know it.
-fn enter(work: &mut [u16], size: usize, len: usize, i: usize, joins: usize)
-    requires { ⌜ Between size len i (now work) joins × (i < len) × (eqnAt (now work) i ≡ false) ⌝ }
-    ensures { λ _. ⌜ Within 12003 32768 (now (work .entry)) (now (work .exit)) × Open (front size len (suc i)) (now (work .exit)) joins (suc i) ⌝ }
+fn enter(work: &mut [u16], front: Front, i: usize, joins: usize)
+    requires { ⌜ Coming front (now work) i joins × (eqnAt (now work) i ≡ false) ⌝ }
+    ensures { λ _. ⌜ Within 12003 32768 (now (work .entry)) (now (work .exit)) × Open front (now (work .exit)) joins (suc i) ⌝ }
 {
     let r = index::number(i);
     let a = table::left(work, r);
@@ -40,9 +40,9 @@ fn enter(work: &mut [u16], size: usize, len: usize, i: usize, joins: usize)
 }
 
 // The equation at place i comes in: its two tags are joined unless they have one label. Both labels are read as one number.
-fn equate(work: &mut [u16], size: usize, len: usize, i: usize, joins: usize) -> Progress
-    requires { ⌜ Between size len i (now work) joins × (i < len) × (eqnAt (now work) i ≡ true) ⌝ }
-    ensures { λ r. ⌜ Within 12003 32768 (now (work .entry)) (now (work .exit)) × Open (front size len (suc i)) (now (work .exit)) (r .joins) (r .first) × (joins ≤ r .joins) ⌝ }
+fn equate(work: &mut [u16], front: Front, i: usize, joins: usize) -> Progress
+    requires { ⌜ Coming front (now work) i joins × (eqnAt (now work) i ≡ true) ⌝ }
+    ensures { λ r. ⌜ Within 12003 32768 (now (work .entry)) (now (work .exit)) × Open front (now (work .exit)) (r .joins) (r .first) × (joins ≤ r .joins) ⌝ }
 {
     let r = index::number(i);
     table::put_chain(work, i, 0);
@@ -55,11 +55,6 @@ fn equate(work: &mut [u16], size: usize, len: usize, i: usize, joins: usize) -> 
             first: 0,
         };
     }
-    let front = Front {
-        size: size,
-        len: len,
-        places: i + 1,
-    };
     let first = joining::join(work, front, joins, 0, r, RecordNo(0), a, b);
     Progress {
         joins: joins + 1,
@@ -78,10 +73,10 @@ fn admit(work: &mut [u16], size: usize, len: usize, i: usize, joins: usize) -> u
         places: i + 1,
     };
     if table::is_equation(work, index::number(i)) {
-        let p = equate(work, size, len, i, joins);
+        let p = equate(work, front, i, joins);
         return settling::settle(work, front, p.joins, p.first);
     }
-    enter(work, size, len, i, joins);
+    enter(work, front, i, joins);
     settling::settle(work, front, joins, i + 1)
 }
 

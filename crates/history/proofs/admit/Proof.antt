@@ -4,11 +4,12 @@ use mathlib.Core.Path.{_≡_, sym, _∙_}
 use native.Mathlib.Omega.{arith}
 use native.Mathlib.Numerals.{add-one}
 use denote.Ref.{now}
-use Prim.Native.Nat.{_<_}
+use Prim.Native.Nat.{_+_, _<_}
 use Rattle.index.specs.State.{eqnAt}
+use Rattle.history.specs.State.{front, Coming}
 use Rattle.history.proofs.admit.Statement.{statement}
 use Rattle.history.proofs.admit.Tie as tie
-use Rattle.history.proofs.Entering.{next-low, admitted}
+use Rattle.history.proofs.Entering.{open-from, next-low, admitted}
 
 low : (s : tie.Start) → s .args .i < 4000
 low s = next-low (s .pre .0) (s .pre .1)
@@ -22,15 +23,19 @@ number-requires c κs = low (c .before .before)
 is-equation-requires : tie.Need-is-equation-requires
 is-equation-requires c κs = let s = c .before .before .before in (s .pre .0 .standing .loaded .long, omega (arith, c .number .ensures, low s))
 
+-- The record is counted.
+coming : (s : tie.Start) → Coming (front (s .args .size) (s .args .len) (s .args .i + 1)) (now (s .args .work)) (s .args .i) (s .args .joins)
+coming s = record { between = s .pre .0; low = s .pre .1; counted = add-one (s .args .i) }
+
 -- Whether the record is an equation.
 kind : (a : tie.After-is-equation) → eqnAt (now (a .before .before .before .before .args .work)) (a .before .before .before .before .args .i) ≡ a .is-equation .result
 kind a = rw (← a .before .number .ensures) (sym (a .is-equation .ensures))
 
 equate-requires : tie.Need-equate-requires
-equate-requires c κs = let a = c .before .before in let s = a .before .before .before .before in (s .pre .0, s .pre .1, kind a ∙ c .before .if1 .taken)
+equate-requires c κs = let a = c .before .before in (coming (a .before .before .before .before), kind a ∙ c .before .if1 .taken)
 
 settle-requires : tie.Need-settle-requires
-settle-requires c κs = rw add-one (c .before .before .before .equate .ensures .1)
+settle-requires c κs = c .before .before .before .equate .ensures .1
 
 same-length : tie.Need-same-length
 same-length c = c .before .before .settle .kept .0 ∙ c .before .before .before .before .before .before .equate .kept .0
@@ -42,13 +47,13 @@ returns c =
     admitted (e .0) (e .2) (f .0) (f .1) (f .2)
 
 enter-requires : tie.Need-enter-requires
-enter-requires c κs = let a = c .before .before in let s = a .before .before .before .before in (s .pre .0, s .pre .1, kind a ∙ c .before .if1 .left)
+enter-requires c κs = let a = c .before .before in (coming (a .before .before .before .before), kind a ∙ c .before .if1 .left)
 
 add-settle-2 : tie.Need-add-settle-2
 add-settle-2 c = record { fits = omega (arith, low (c .before .before .before .before .before .before .before .before .before .before)) }
 
 settle-requires-2 : tie.Need-settle-requires-2
-settle-requires-2 c κs = rw add-one (c .before .before .before .enter .ensures .1)
+settle-requires-2 c κs = open-from (add-one _) (c .before .before .before .enter .ensures .1)
 
 same-length-2 : tie.Need-same-length-2
 same-length-2 c = c .before .before .settle2 .kept .0 ∙ c .before .before .before .before .before .before .enter .kept .0

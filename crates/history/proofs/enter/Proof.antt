@@ -9,19 +9,19 @@ use lib.ListN.{length}
 use Rattle.table.specs.Map.{leftOf, rightOf, useOf}
 use Rattle.history.proofs.enter.Statement.{statement}
 use Rattle.history.proofs.enter.Tie as tie
-use Rattle.history.proofs.Entering.{next-low, next-left, next-right, Stored, stored-as, entered}
+use Rattle.history.proofs.Entering.{counted-open, next-low, next-left, next-right, Stored, stored-as, entered}
 
 low : (s : tie.Start) → s .args .i < 4000
-low s = next-low (s .pre .0) (s .pre .1)
+low s = next-low (s .pre .0 .between) (s .pre .0 .low)
 
 number-requires : tie.Need-number-requires
 number-requires c κs = low (c .before)
 
 left-requires : tie.Need-left-requires
-left-requires c κs = let s = c .before .before .before in (s .pre .0 .standing .loaded .long, omega (arith, c .before .number .ensures, low s))
+left-requires c κs = let s = c .before .before .before in (s .pre .0 .between .standing .loaded .long, omega (arith, c .before .number .ensures, low s))
 
 right-requires : tie.Need-right-requires
-right-requires c κs = let s = c .before .before .before .before .before in (s .pre .0 .standing .loaded .long, omega (arith, c .before .before .before .number .ensures, low s))
+right-requires c κs = let s = c .before .before .before .before .before in (s .pre .0 .between .standing .loaded .long, omega (arith, c .before .before .before .number .ensures, low s))
 
 -- The two arguments.
 abbrev at-start : tie.After-right → tie.Start
@@ -34,33 +34,33 @@ right-is : (r : tie.After-right) → r .right .result .0 ≡ rightOf (now (at-st
 right-is r = r .right .ensures ∙ ap (rightOf (now (at-start r .args .work))) (r .before .before .before .before .number .ensures)
 
 left-low : (r : tie.After-right) → leftOf (now (at-start r .args .work)) (suc (at-start r .args .i)) < 1000
-left-low r = next-left (at-start r .pre .0) (at-start r .pre .1)
+left-low r = next-left (at-start r .pre .0 .between) (at-start r .pre .0 .low)
 
 right-low : (r : tie.After-right) → rightOf (now (at-start r .args .work)) (suc (at-start r .args .i)) < 1000
-right-low r = next-right (at-start r .pre .0) (at-start r .pre .1)
+right-low r = next-right (at-start r .pre .0 .between) (at-start r .pre .0 .low)
 
 last-use-requires : tie.Need-last-use-requires
-last-use-requires c κs = let r = c .before in (at-start r .pre .0 .standing .loaded .long, omega (arith, left-is r, left-low r))
+last-use-requires c κs = let r = c .before in (at-start r .pre .0 .between .standing .loaded .long, omega (arith, left-is r, left-low r))
 
 -- A list begins at a place that is in.
 put-use-requires : tie.Need-put-use-requires
 put-use-requires c κs =
     let r = c .before .before .before in
     let s = at-start r in
-    (s .pre .0 .standing .loaded .long, omega (arith, left-is r, left-low r), low s, rw (c .before .last-use .ensures) (omega (arith, s .pre .0 .indexed .uses false .heads (r .before .before .left .result .0), low s)))
+    (s .pre .0 .between .standing .loaded .long, omega (arith, left-is r, left-low r), low s, rw (c .before .last-use .ensures) (omega (arith, s .pre .0 .between .indexed .uses false .heads (r .before .before .left .result .0), low s)))
 
 first : (u : tie.After-put-use) → let s = at-start (u .before .before .before .before) in
     Stored false (leftOf (now (s .args .work)) (suc (s .args .i))) (s .args .i) (useOf false (now (s .args .work)) (leftOf (now (s .args .work)) (suc (s .args .i)))) (now (s .args .work)) (u .put-use .last .0)
 first u =
     let r = u .before .before .before .before in
     let s = at-start r in
-    stored-as (now (s .args .work)) (s .pre .0 .standing .loaded .long) _ (s .args .i) _ (left-low r) (low s) false _ _ _ (left-is r) (u .before .before .last-use .ensures ∙ ap (useOf false (now (s .args .work))) (left-is r)) (u .put-use .ensures)
+    stored-as (now (s .args .work)) (s .pre .0 .between .standing .loaded .long) _ (s .args .i) _ (left-low r) (low s) false _ _ _ (left-is r) (u .before .before .last-use .ensures ∙ ap (useOf false (now (s .args .work))) (left-is r)) (u .put-use .ensures)
 
 abbrev right-of : tie.After-put-use → tie.After-right
 right-of u = u .before .before .before .before
 
 long : (u : tie.After-put-use) → 32768 ≤ length (u .put-use .last .0)
-long u = omega (arith, at-start (right-of u) .pre .0 .standing .loaded .long, first u .frame .size)
+long u = omega (arith, at-start (right-of u) .pre .0 .between .standing .loaded .long, first u .frame .size)
 
 last-use-requires-2 : tie.Need-last-use-requires-2
 last-use-requires-2 c κs = let u = c .before .before .before in (long u, omega (arith, right-is (right-of u), right-low (right-of u)))
@@ -70,7 +70,7 @@ put-use-requires-2 c κs =
     let u = c .before .before .before .before .before in
     let r = right-of u in
     let s = at-start r in
-    (long u, omega (arith, right-is r, right-low r), low s, rw (c .before .last-use2 .ensures, first u .other-use) (omega (arith, s .pre .0 .indexed .uses true .heads (r .right .result .0), low s)))
+    (long u, omega (arith, right-is r, right-low r), low s, rw (c .before .last-use2 .ensures, first u .other-use) (omega (arith, s .pre .0 .between .indexed .uses true .heads (r .right .result .0), low s)))
 
 second : (v : tie.After-put-use2) → let u = v .before .before .before .before .before .before in let s = at-start (right-of u) in
     Stored true (rightOf (now (s .args .work)) (suc (s .args .i))) (s .args .i) (useOf true (u .put-use .last .0) (rightOf (now (s .args .work)) (suc (s .args .i)))) (u .put-use .last .0) (v .put-use2 .last .0)
@@ -98,7 +98,8 @@ returns c =
     let v = p .before .before .before .before in
     let u = v .before .before .before .before .before .before in
     let s = at-start (right-of u) in
-    entered (s .pre .0) (s .pre .1) (s .pre .2) (first u) (second v) (p .put-wait .ensures)
+    let e = entered (s .pre .0 .between) (s .pre .0 .low) (s .pre .1) (first u) (second v) (p .put-wait .ensures) in
+    (e .0, counted-open (s .pre .0 .counted) (e .1))
 
 pub enter-spec : {M : Type 1} → statement M
 enter-spec =
