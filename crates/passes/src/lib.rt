@@ -7,9 +7,11 @@
 ghost use mathlib.Core.Path.{_≡_};
 ghost use Prim.Native.Nat.{_%_};
 ghost use mathlib.Core.Bool.{true, false};
+ghost use Rattle.table.specs.Map.{listOf};
 ghost use Rattle.labels.specs.Chain.{seekTo, hits};
 ghost use Rattle.labels.specs.Parts.{width, nextTo};
 ghost use Rattle.passes.specs.State.{keyOf, eqnOf, bucketIn, linkIn, Seeking, Finding, Joining, Joined, Meeting, Met, Stepping, Stepped, Unifying, State, Passed, Rested};
+use meaning::RecordNo;
 use meaning::Tag;
 
 // What is closed: the list's first `places` records, of those 1 to `len` that the table holds of `size` tags. The chains are short of places and
@@ -95,12 +97,11 @@ pub fn find(work: &[u16], task: Task, i: usize) -> Spot
     }
 }
 
-// The equation at place i is met: its two tags are joined unless they have one label.
-fn equate(work: &mut [u16], task: Task, i: usize, joins: usize) -> usize
-    requires { ⌜ Stepping task (now work) i joins × (eqnOf (now work) i ≡ true) ⌝ }
-    ensures { λ r. ⌜ Stepped task (now (work .entry)) i joins (now (work .exit)) r ⌝ }
+// The equation r at place i is met: its two tags are joined unless they have one label.
+fn equate(work: &mut [u16], task: Task, r: RecordNo, i: usize, joins: usize) -> usize
+    requires { ⌜ Stepping task (now work) i joins × (eqnOf (now work) i ≡ true) × (r .0 ≡ listOf (now work) i) ⌝ }
+    ensures { λ n. ⌜ Stepped task (now (work .entry)) i joins (now (work .exit)) n ⌝ }
 {
-    let r = table::listed(work, i);
     let s = table::left(work, r);
     let t = table::right(work, r);
     meet(work, task, s, t, joins)
@@ -138,7 +139,7 @@ fn step(work: &mut [u16], task: Task, i: usize, joins: usize) -> usize
 {
     let r = table::listed(work, i);
     if table::is_equation(work, r) {
-        equate(work, task, i, joins)
+        equate(work, task, r, i, joins)
     } else {
         apply(work, task, i, joins)
     }

@@ -16,7 +16,7 @@ is-equation-requires c κs = let p = c .before .before .before .before .pre in (
 equate-requires : tie.Need-equate-requires
 equate-requires c κs =
     let s = c .before .before .before .before .before .before .before in
-    (s .pre, eqn-is (now (s .args .work)) (s .args .i) _ _ _ (c .before .before .before .before .listed .ensures) (c .before .before .is-equation .ensures) (c .before .if1 .taken))
+    (s .pre, eqn-is (now (s .args .work)) (s .args .i) _ _ _ (c .before .before .before .before .listed .ensures) (c .before .before .is-equation .ensures) (c .before .if1 .taken), c .before .before .before .before .listed .ensures)
 
 apply-requires : tie.Need-apply-requires
 apply-requires c κs =
