@@ -18,7 +18,7 @@ use prog.Wp.{Heap, Env, Calls, Loops, WpFn, Tables}
 use ghost.Atoms.{Atoms, sem}
 use contract.Monad.{Fun, fact}
 use contract.Running.{givenOf, tables, tablesOf}
-use types.Kit.{Given, Item, ‵, raw, mean, given, _⊛_, ⋆, some, later, runs, atRet, Sq, _$_, _∵_, !, qed, by, move, keep, drop, use1, use2, use3, split, join, pick, learn, rewrite, check, show, fsplit, fjoin, feqL, suffices, frame, await, updating, now as at-once, done}
+use types.Kit.{Given, Goal, Soaks, Item, ‵, raw, mean, given, _⊛_, ⋆, some, later, runs, atRet, Sq, _$_, _∵_, !, qed, by, move, keep, drop, use1, use2, use3, split, join, pick, learn, rewrite, check, show, fsplit, fjoin, feqL, suffices, frame, await, updating, now as at-once, done}
 use types.Run.{look, init, forget, stop, hop, fld, from, load, addr, of-opd, and-then, no-more, assigns, land, returns, enter, alloc1, alloc0, params1, pass1, pass0, free1, free0}
 use types.Part.{whole, sub, look-in, agg}
 use sound.WpLaws.{FmC, fmOf, WpFn-mono}
@@ -26,7 +26,7 @@ use denote.RattleType.{RattleType, owns}
 use denote.Laws.{Is, Tells, shows}
 use denote.Memory.{pointee}
 use denote.Plain.{uint-makes, nothing-lawful}
-use denote.Builtin.{u8, u16, usize, unit}
+use denote.Builtin.{u8, u16, usize}
 use denote.Ref.{RefT}
 use denote.Slice.{sliceTy, sliceVal, MutSlice, ShrSlice, Room, finally, slice-vals, mut-slice-tells, shr-slice-tells, shr-slice-copy}
 use denote.Steps.{only, owned, peeks, heard, nothing}
@@ -43,13 +43,11 @@ use denote.Signature.{plain}
 use Rattle.records.specs.declared.Record.{Record}
 use Rattle.records.specs.Table.{Blanked}
 use Rattle.records.proofs.Rows.{R}
-use Rattle.records.proofs.Lent.{lend-on, take-back}
-use Rattle.records.proofs.clear as blank′
+use Rattle.records.proofs.Lent.{lend-on}
 use Rattle.records.proofs.clear.Symbol as blank-def
 use Rattle.records.proofs.clear.Symbol.{name as #records·clear}
 use Rattle.records.proofs.clear.Met as blank-thm
-use Rattle.fill.specs.Handing.{Handable, Handed}
-use Rattle.fill.proofs.take_in as take
+use Rattle.fill.specs.Handing.{Handed}
 use Rattle.fill.proofs.take_in.Symbol as take-def
 use Rattle.fill.proofs.take_in.Symbol.{name as #fill·take-in}
 use Rattle.fill.proofs.take_in.Met as take-thm
@@ -58,6 +56,7 @@ use Rattle.parts.specs.declared.Answer.{Answer}
 use Rattle.haltzurme.specs.Run.{Lent, Ran}
 use Rattle.parts.specs.Look.{Looked}
 use Rattle.parts.specs.Finish.{Begun, Finished}
+use Rattle.haltzurme.proofs.Around.{Take, Blank, to-take, puts-take, gets-take, backs-take, to-blank, goes-blank, gets-blank}
 use Rattle.haltzurme.proofs.Whole.{lent-handable, handed-begun, finished-ran}
 use Rattle.parts.proofs.Sight as S
 use Rattle.parts.proofs.Sight.Laws as S′
@@ -132,14 +131,8 @@ module _ {M : Type 1} (𝓤 : URA M) (H : Heap 𝓤) (A : Atoms 𝓤) (mem : Mem
   abbrev Look : Contract 𝓤
   Look = tripleOf 𝓤 H A look′.signature (look′.spec 𝓤 H A mem run)
 
-  abbrev Take : Contract 𝓤
-  Take = tripleOf 𝓤 H A take.signature (take.spec 𝓤 H A mem run)
-
   abbrev Finish : Contract 𝓤
   Finish = tripleOf 𝓤 H A finish.signature (finish.spec 𝓤 H A mem run)
-
-  abbrev Blank : Contract 𝓤
-  Blank = tripleOf 𝓤 H A blank′.signature (blank′.spec 𝓤 H A mem run)
 
 -- ---- the call of `look`
 module _ {M : Type 1} (𝓤 : URA M) (H : Heap 𝓤) (A : Atoms 𝓤) (W : Given 𝓤 H A) (mem : Memory → SProp 𝓤) (run : Routine → Fun 𝓤) (κj : Lft) (qj : Share) (xj : RefT (List ℕ)) (k : ℕ) where
@@ -223,20 +216,6 @@ module _ {M : Type 1} (𝓤 : URA M) (H : Heap 𝓤) (A : Atoms 𝓤) (W : Given
       suffices ! _ (ends-at 𝓤 H A f.ended stayed (f.clauses 𝓤 H A mem run) W bound v r (tt, (zr, (zc, (zw, tt)))) (tt, (lr, (lc, (lw, tt))))) $ says ! out $
       frame ! $ nothing ! $ move ! (4 ∷ 0 ∷ []) $ fjoin ! $ move ! (3 ∷ 0 ∷ []) $ fjoin ! $ move ! (2 ∷ 0 ∷ []) $ fjoin ! $ move ! (1 ∷ 0 ∷ []) $ fjoin ! $ done !
 
-  -- the call of `take_in`: the record table is lent again for ν under δ, and the work table for ν′ under δ′
-  module _ (s : Sight) (ν : ℕ) (δ : GName) (ν′ : ℕ) (δ′ : GName) where
-    abbrev Toks₃ : Item 𝓤
-    Toks₃ = ‵ (flft κj qj) ⊛ (‵ (flft (ν ∷ []) fullShare) ⊛ (‵ (flft (ν′ ∷ []) fullShare) ⊛ ‵ ftrue))
-
-    abbrev Owns₄ : Item 𝓤
-    Owns₄ = ‵ (owns (ShrSlice (named 0) κj u8 ∷ MutSlice (named 1) (ν ∷ []) R ∷ MutSlice (named 2) (ν′ ∷ []) u16 ∷ usize ∷ []) (xj, (rc δ ys, (rw δ′ ws, (s .records, tt)))) (vj ∷ [], (vC ys ∷ [], (vW ws ∷ [], (vint w64 (s .records) ∷ [], tt)))))
-
-    abbrev to-take : Take 𝓤 H A mem run .Ghost
-    to-take = (((κj, (ν ∷ [], (ν′ ∷ [], tt))), (qj, (fullShare, (fullShare, tt))), tt, (xj, (rc δ ys, (rw δ′ ws, (s .records, tt)))), (vj ∷ [], (vC ys ∷ [], (vW ws ∷ [], (vint w64 (s .records) ∷ [], tt))))), tt)
-
-    goes-take : Handable (xj .now) ys ws (s .records) → ent 𝓤 (⋆ 𝓤 H A (Toks₃ ∷ Owns₄ ∷ [])) (Take 𝓤 H A mem run .pre to-take)
-    goes-take asked = qed W (Toks₃ ∷ Owns₄ ∷ []) ∵ says ! asked $ done !
-
   -- the call of `finish`, with the work table at v
   module _ (s : Sight) (v : List ℕ) where
     abbrev Toks-f : Item 𝓤
@@ -251,15 +230,36 @@ module _ {M : Type 1} (𝓤 : URA M) (H : Heap 𝓤) (A : Atoms 𝓤) (W : Given
     goes-finish : Begun (xj .now) (xr .now) v s → ent 𝓤 (⋆ 𝓤 H A (Toks-f ∷ Owns-f ∷ [])) (Finish 𝓤 H A mem run .pre to-finish)
     goes-finish asked = qed W (Toks-f ∷ Owns-f ∷ []) ∵ says ! asked $ done !
 
-  -- the call of `clear`, with the record table at u
-  module _ (u : List Record) where
-    abbrev to-blank : Blank 𝓤 H A mem run .Ghost
-    to-blank = (((κc, tt), (qc, tt), tt, (rc γc u, tt), (vC u ∷ [], tt)), tt)
+    puts-finish : {G : Goal 𝓤 H} {Γ : List (Item 𝓤)} {recs tok : Item 𝓤} → Is SR s (svals s) → Begun (xj .now) (xr .now) v s
+        → Sq W (raw (Finish 𝓤 H A mem run .pre to-finish) ∷ Oj ∷ recs ∷ tok ∷ Γ) G
+        → Sq W (recs ∷ tok ∷ ‵ (MutSlice (named 3) κw u16 .own (rw γw v) (vW v ∷ [])) ∷ ‵ (flft κw qw) ∷ Or ∷ ‵ (flft κr qr) ∷ Oj ∷ ‵ (flft κj qj) ∷ Γ) G
+    puts-finish is asked k =
+        move ! (6 ∷ []) $ use1 W (Oj ⊛ Oj) (shr-slice-copy 𝓤 H A W (named 0) κj u8 .twice xj (vj ∷ [])) $ split ! $
+        nothing ! $ move ! (6 ∷ 0 ∷ []) $ join ! $ move ! (7 ∷ 0 ∷ []) $ join ! $ move ! (7 ∷ 0 ∷ []) $ join ! $
+        -- [the tokens; job; job; records; its token; work; room; …]
+        nothing ! $ owned ! SR (Is SR) (LL.makes S.the-type S′.the-plain 𝓤 H A) s _ is $ fjoin ! $ move ! (6 ∷ 0 ∷ []) $ fjoin ! $ move ! (6 ∷ 0 ∷ []) $ fjoin ! $ move ! (2 ∷ 0 ∷ []) $ fjoin ! $ move ! (1 ∷ 0 ∷ []) $
+        use2 W (raw (Finish 𝓤 H A mem run .pre to-finish)) (goes-finish asked) $ k
 
-    goes-blank : 4000 ≤ length u → ent 𝓤 (⋆ 𝓤 H A (‵ (flft κc qc) ∷ ‵ (MutSlice (named 0) κc R .own (rc γc u) (vC u ∷ [])) ∷ [])) (Blank 𝓤 H A mem run .pre to-blank)
-    goes-blank enough =
-        qed W (‵ (flft κc qc) ∷ ‵ (MutSlice (named 0) κc R .own (rc γc u) (vC u ∷ [])) ∷ []) ∵ says ! enough $ nothing ! $ move ! (1 ∷ 0 ∷ []) $ join ! $ frame ! $
-        nothing ! $ move ! (1 ∷ 0 ∷ []) $ fjoin ! $ done !
+    gets-finish : {G : Goal 𝓤 H} {Γ : List (Item 𝓤)} (w : Val) → Soaks G
+        → ((r : Answer) (zr zw : List ℕ) → Ends-at (xj .now) (xr .now) v r zr zw → length zr ≡ length (xr .now) → length zw ≡ length v → Is Ans r (w ∷ [])
+        → Sq W (‵ (Ans .own r (w ∷ [])) ∷ Toks-f ∷ ‵ (finally u16 γw zw) ∷ ‵ (finally u8 (xr .name) zr) ∷ Γ) G)
+        → Sq W (raw (Finish 𝓤 H A mem run .post to-finish w) ∷ Γ) G
+    gets-finish w soaks k =
+        use1 W (later (some (λ (r : Answer). (Toks-f ⊛ ‵ (Ans .own r (w ∷ []))) ⊛ raw (ensured 𝓤 H A finish.ended (finish.clauses 𝓤 H A mem run) (κj, (κr, (κw, tt))) (xj, (xr, (rw γw v, (s, tt)))) tt r)))) (id⊢ 𝓤 _) $ await ! soaks $ pick ! (λ r.
+        split ! $ move ! (1 ∷ []) $ use1 W (some (λ (zs : Unit {0} × (List ℕ × (List ℕ × (Unit {0} × Unit {0})))). ‵ (lasts finish.ended (κj, (κr, (κw, tt))) (xj, (xr, (rw γw v, (s, tt)))) zs) ⊛ raw (fact 𝓤 (Ends-at (xj .now) (xr .now) v r (zs .1 .0) (zs .1 .1 .0))))) (id⊢ 𝓤 _) $ pick ! (λ zs.
+        split ! $ move ! (1 ∷ []) $ heard ! (Ends-at (xj .now) (xr .now) v r (zs .1 .0) (zs .1 .1 .0)) (λ e. fsplit ! $ drop ! $ fsplit ! $ fsplit ! $ move ! (1 ∷ []) $ feqL ! (λ lr. move ! (1 ∷ []) $ fsplit ! $ fsplit ! $ move ! (1 ∷ []) $ feqL ! (λ lw.
+        -- [work's last list; …; room's; the tokens and the answer; …]
+        move ! (1 ∷ []) $ drop ! $ move ! (2 ∷ []) $ split ! $ move ! (1 ∷ []) $ peeks ! Ans (Is Ans) (shows 𝓤 H A Ans) r (w ∷ []) (λ ans-is.
+        k r (zs .1 .0) (zs .1 .1 .0) e lr lw ans-is))))))
+
+    -- what was given up and what is left, in the order of the next call
+    backs-finish : {G : Goal 𝓤 H} {Γ : List (Item 𝓤)} {recs tok : Item 𝓤} (w : Val) (r : Answer) (zr zw : List ℕ)
+        → Sq W (recs ∷ tok ∷ ‵ (flft κw qw) ∷ ‵ (finally u16 γw zw) ∷ ‵ (flft κr qr) ∷ ‵ (finally u8 (xr .name) zr) ∷ Oj ∷ ‵ (flft κj qj) ∷ Γ) G
+        → Sq W (‵ (Ans .own r (w ∷ [])) ∷ Toks-f ∷ ‵ (finally u16 γw zw) ∷ ‵ (finally u8 (xr .name) zr) ∷ Oj ∷ recs ∷ tok ∷ Γ) G
+    backs-finish w r zr zw k =
+        drop ! $ split ! $ move ! (1 ∷ []) $ split ! $ move ! (1 ∷ []) $ split ! $
+        -- [work's token; true; room's; job's; work's last list; room's; job; records; its token; …]
+        move ! (1 ∷ []) $ drop ! $ move ! (6 ∷ 7 ∷ 0 ∷ 3 ∷ 1 ∷ 4 ∷ 5 ∷ 2 ∷ []) $ k
 
   module _ (C : Calls 𝓤 H) (Λ : Loops 𝓤 H) (fm : FmC 𝓤 H (W .laws) C) (known-look : Triple 𝓤 (C #parts·look) (Look 𝓤 H A mem run)) (known-take : Triple 𝓤 (C #fill·take-in) (Take 𝓤 H A mem run))
       (known-finish : Triple 𝓤 (C #parts·finish) (Finish 𝓤 H A mem run)) (known-blank : Triple 𝓤 (C #records·clear) (Blank 𝓤 H A mem run))
@@ -291,14 +291,10 @@ module _ {M : Type 1} (𝓤 : URA M) (H : Heap 𝓤) (A : Atoms 𝓤) (W : Given
     blanks s r va u v zr zw is lr lu lw out =
         assigns ! (addr ! (from ! (fld ! refl (hop ! (look-in ! 38 (sub ! 0 refl (whole !))) (stop !))))) (from ! (stop !)) (init ! 10 refl (tt, tt)) $
         assigns ! (agg ! (and-then ! (load ! (from ! (stop !)) (look ! 10 refl)) (and-then ! (load ! (from ! (fld ! refl (stop !))) (look-in ! 38 (sub ! 1 refl (whole !)))) (no-more !)))) (from ! (stop !)) (init ! 8 refl (tt, (tt, (record { fits = room-u .0 }, tt)))) $
-        move ! (1 ∷ 0 ∷ []) $ use2 W (raw (Blank 𝓤 H A mem run .pre (to-blank u))) (goes-blank u enough) $
+        move ! (1 ∷ 0 ∷ []) $ use2 W (raw (Blank 𝓤 H A mem run .pre (to-blank 𝓤 H A W mem run κj κc κw qj qc qw xj bc oc γc ys bw ow γw ws roomc roomw u))) (goes-blank 𝓤 H A W mem run κj κc κw qj qc qw xj bc oc γc ys bw ow γw ws roomc roomw u enough) $
         -- [what is asked; work's token; its last list; room's token; its last list; job; its token; _18 (7); …]
-        calls-at ! fm (Blank 𝓤 H A mem run) known-blank (to-blank u) (and-then ! (load ! (from ! (stop !)) (look ! 7 refl)) (no-more !)) (λ w.
-        use1 W (later (some (λ (z : Unit {0}). ((‵ (flft κc qc) ⊛ ‵ ftrue) ⊛ ‵ (unit .own z (w ∷ []))) ⊛ raw (ensured 𝓤 H A blank′.ended (blank′.clauses 𝓤 H A mem run) (κc, tt) (rc γc u, tt) tt z)))) (id⊢ 𝓤 _) $ await ! tt $ pick ! (λ z.
-        split ! $ move ! (1 ∷ []) $ use1 W (some (λ (zs : List Record × Unit {0}). ‵ (lasts blank′.ended (κc, tt) (rc γc u, tt) zs) ⊛ raw (fact 𝓤 (Blanked u (zs .0))))) (id⊢ 𝓤 _) $ pick ! (λ zs.
-        split ! $ move ! (1 ∷ []) $ heard ! (Blanked u (zs .0)) (λ e. fsplit ! $ fsplit ! $ move ! (1 ∷ []) $ feqL ! (λ lc.
-        -- [records's last list; true; the token and the result; work's token; its last list; room's token; its last list; job; its token; _18 (9); …]
-        move ! (2 ∷ []) $ split ! $ move ! (1 ∷ []) $ peeks ! unit (Is unit) (shows 𝓤 H A unit) z (w ∷ []) (λ done-is.
+        calls-at ! fm (Blank 𝓤 H A mem run) known-blank (to-blank 𝓤 H A W mem run κj κc κw qj qc qw xj bc oc γc ys bw ow γw ws roomc roomw u) (and-then ! (load ! (from ! (stop !)) (look ! 7 refl)) (no-more !)) (λ w.
+        gets-blank 𝓤 H A W mem run κj κc κw qj qc qw xj bc oc γc ys bw ow γw ws roomc roomw u w tt (λ z zc e lc done-is.
         land ! (from ! (stop !)) (init ! 30 refl (nothing-lawful 𝓤 H A W .typed z (w ∷ []) done-is .0)) $ drop ! $ split ! $
         -- [records's token; true; its last list; true; work's token; its last list; room's token; its last list; job; its token; _18 (10); …]
         assigns ! (of-opd ! (load ! (from ! (stop !)) (look ! 34 refl))) (from ! (stop !)) (init ! 46 refl typed) $
@@ -307,7 +303,7 @@ module _ {M : Type 1} (𝓤 : URA M) (H : Heap 𝓤) (A : Atoms 𝓤) (W : Given
         move ! (4 ∷ 1 ∷ []) $ join ! $ move ! (1 ∷ 0 ∷ []) $ join ! $ move ! (4 ∷ 0 ∷ []) $ join ! $ move ! (6 ∷ 0 ∷ []) $ join ! $
         -- [the tokens; records's last list; true; work's; room's; job]
         owned ! Ans (Is Ans) (LL.makes N.the-type N′.the-plain 𝓤 H A) r (va ∷ []) is $
-        keep ! (1 ∷ 6 ∷ 5 ∷ 2 ∷ 4 ∷ 0 ∷ []) $ by ! (exits r va zr (zs .0) zw lr (lc ∙ lu) lw (out (zs .0) e))))))))
+        keep ! (1 ∷ 6 ∷ 5 ∷ 2 ∷ 4 ∷ 0 ∷ []) $ by ! (exits r va zr zc zw lr (lc ∙ lu) lw (out zc e))))
       where
         room-u : Room R (length u)
         room-u = subst (Room R) (sym lu) roomc
@@ -326,23 +322,14 @@ module _ {M : Type 1} (𝓤 : URA M) (H : Heap 𝓤) (A : Atoms 𝓤) (W : Given
         assigns ! (agg ! (and-then ! (load ! (from ! (stop !)) (look ! 18 refl)) (and-then ! (load ! (from ! (fld ! refl (stop !))) (look-in ! 40 (sub ! 1 refl (whole !)))) (no-more !)))) (from ! (stop !)) (init ! 16 refl (tt, (tt, (record { fits = roomr .0 }, tt)))) $
         assigns ! (addr ! (from ! (fld ! refl (hop ! (look-in ! 36 (sub ! 0 refl (whole !))) (stop !))))) (from ! (stop !)) (init ! 14 refl (tt, tt)) $
         assigns ! (agg ! (and-then ! (load ! (from ! (stop !)) (look ! 14 refl)) (and-then ! (load ! (from ! (fld ! refl (stop !))) (look-in ! 36 (sub ! 1 refl (whole !)))) (no-more !)))) (from ! (stop !)) (init ! 12 refl (tt, (tt, (record { fits = room-v .0 }, tt)))) $
-        -- the job is had twice, and the tokens and what is owned are put together
-        move ! (6 ∷ []) $ use1 W (Oj ⊛ Oj) (shr-slice-copy 𝓤 H A W (named 0) κj u8 .twice xj (vj ∷ [])) $ split ! $
-        nothing ! $ move ! (6 ∷ 0 ∷ []) $ join ! $ move ! (7 ∷ 0 ∷ []) $ join ! $ move ! (7 ∷ 0 ∷ []) $ join ! $
-        -- [the tokens; job; job; records; its token; work; room; _18 (7); …]
-        nothing ! $ owned ! SR (Is SR) (LL.makes S.the-type S′.the-plain 𝓤 H A) s _ is $ fjoin ! $ move ! (6 ∷ 0 ∷ []) $ fjoin ! $ move ! (6 ∷ 0 ∷ []) $ fjoin ! $ move ! (2 ∷ 0 ∷ []) $ fjoin ! $ move ! (1 ∷ 0 ∷ []) $
-        use2 W (raw (Finish 𝓤 H A mem run .pre (to-finish s v))) (goes-finish s v (handed-begun (xj .now) (xr .now) ys ws s can seen u v handed)) $
+        puts-finish s v is (handed-begun (xj .now) (xr .now) ys ws s can seen u v handed) (
         -- [what is asked; job; records; its token; _18 (4); …]
         calls-at ! fm (Finish 𝓤 H A mem run) known-finish (to-finish s v) (and-then ! (load ! (from ! (stop !)) (look ! 38 refl)) (and-then ! (load ! (from ! (stop !)) (look ! 12 refl)) (and-then ! (load ! (from ! (stop !)) (look ! 8 refl)) (and-then ! (load ! (from ! (stop !)) (look ! 30 refl)) (no-more !))))) (λ w.
-        use1 W (later (some (λ (r : Answer). (Toks-f s v ⊛ ‵ (Ans .own r (w ∷ []))) ⊛ raw (ensured 𝓤 H A finish.ended (finish.clauses 𝓤 H A mem run) (κj, (κr, (κw, tt))) (xj, (xr, (rw γw v, (s, tt)))) tt r)))) (id⊢ 𝓤 _) $ await ! tt $ pick ! (λ r.
-        split ! $ move ! (1 ∷ []) $ use1 W (some (λ (zs : Unit {0} × (List ℕ × (List ℕ × (Unit {0} × Unit {0})))). ‵ (lasts finish.ended (κj, (κr, (κw, tt))) (xj, (xr, (rw γw v, (s, tt)))) zs) ⊛ raw (fact 𝓤 (Ends-at (xj .now) (xr .now) v r (zs .1 .0) (zs .1 .1 .0))))) (id⊢ 𝓤 _) $ pick ! (λ zs.
-        split ! $ move ! (1 ∷ []) $ heard ! (Ends-at (xj .now) (xr .now) v r (zs .1 .0) (zs .1 .1 .0)) (λ e. fsplit ! $ drop ! $ fsplit ! $ fsplit ! $ move ! (1 ∷ []) $ feqL ! (λ lr. move ! (1 ∷ []) $ fsplit ! $ fsplit ! $ move ! (1 ∷ []) $ feqL ! (λ lw.
-        -- [work's last list; …; room's; the tokens and the answer; job; records; its token; _18 (7); …]
-        move ! (3 ∷ []) $ split ! $ move ! (1 ∷ []) $ peeks ! Ans (Is Ans) (shows 𝓤 H A Ans) r (w ∷ []) (λ ans-is.
-        land ! (from ! (stop !)) (init ! 32 refl (LL.lawful N.the-type N′.the-laws 𝓤 H A W .typed r (w ∷ []) ans-is .0)) $ drop ! $ split ! $ move ! (1 ∷ []) $ split ! $ move ! (1 ∷ []) $ split ! $
-        -- [work's token; true; room's; job's; work's last list; …; room's; job; records; its token; _18 (10); …]
-        forget ! 14 refl $ forget ! 16 refl $ forget ! 18 refl $ forget ! 20 refl $ move ! (1 ∷ 5 ∷ []) $ drop ! $ drop ! $ move ! (6 ∷ 7 ∷ 0 ∷ 3 ∷ 1 ∷ 4 ∷ 5 ∷ 2 ∷ []) $
-        blanks s r w u v (zs .1 .0) (zs .1 .1 .0) ans-is lr lu (lw ∙ lv) (λ zc b. finished-ran (xj .now) (xr .now) ys ws s can seen u v handed (r .number) (r .place) (r .length) (zs .1 .0) (zs .1 .1 .0) zc e b))))))))
+        gets-finish s v w tt (λ r zr zw e lr lw ans-is.
+        land ! (from ! (stop !)) (init ! 31 refl (LL.lawful N.the-type N′.the-laws 𝓤 H A W .typed r (w ∷ []) ans-is .0)) $ backs-finish s v w r zr zw (
+        -- [records; its token; work's token; its last list; room's token; its last list; job; its token; _18 (8); …]
+        forget ! 12 refl $ forget ! 14 refl $ forget ! 16 refl $ forget ! 18 refl $
+        blanks s r w u v zr zw ans-is lr lu (lw ∙ lv) (λ zc b. finished-ran (xj .now) (xr .now) ys ws s can seen u v handed (r .number) (r .place) (r .length) zr zw zc e b)))))
       where
         room-v : Room u16 (length v)
         room-v = subst (Room u16) (sym lv) roomw
@@ -356,29 +343,14 @@ module _ {M : Type 1} (𝓤 : URA M) (H : Heap 𝓤) (A : Atoms 𝓤) (W : Given
         assigns ! (agg ! (and-then ! (load ! (from ! (stop !)) (look ! 22 refl)) (and-then ! (load ! (from ! (fld ! refl (stop !))) (look-in ! 36 (sub ! 1 refl (whole !)))) (no-more !)))) (from ! (stop !)) (init ! 20 refl (tt, (tt, (record { fits = roomw .0 }, tt)))) $
         lend-on 𝓤 H A W R κc qc γc bc oc ys (named 2) tt (λ ν δ. move ! (3 ∷ 4 ∷ []) $ lend-on 𝓤 H A W u16 κw qw γw bw ow ws (named 3) tt (λ ν′ δ′.
         -- [work; ν′'s token; what waits; records; ν's token; what waits; room; its token; job; its token; _18 (10); …]
-        move ! (8 ∷ []) $ use1 W (Oj ⊛ Oj) (shr-slice-copy 𝓤 H A W (named 0) κj u8 .twice xj (vj ∷ [])) $ split ! $
-        nothing ! $ move ! (4 ∷ 0 ∷ []) $ join ! $ move ! (6 ∷ 0 ∷ []) $ join ! $ move ! (9 ∷ 0 ∷ []) $ join ! $
-        -- [the tokens; job; job; work; what waits; records; what waits; room; its token; _18 (9); …]
-        nothing ! $ owned ! usize (Is usize) (uint-makes 𝓤 H A W w64) (s .records) _ (refl, fits) $ fjoin ! $ move ! (4 ∷ 0 ∷ []) $ fjoin ! $ move ! (5 ∷ 0 ∷ []) $ fjoin ! $ move ! (2 ∷ 0 ∷ []) $ fjoin ! $ move ! (1 ∷ 0 ∷ []) $
-        use2 W (raw (Take 𝓤 H A mem run .pre (to-take s ν δ ν′ δ′))) (goes-take s ν δ ν′ δ′ (lent-handable (xj .now) (xr .now) ys ws s can seen)) $
+        puts-take 𝓤 H A W mem run κj κc κw qj qc qw xj bc oc γc ys bw ow γw ws roomc roomw s ν δ ν′ δ′ fits (lent-handable (xj .now) (xr .now) ys ws s can seen) (
         -- [what is asked; job; what waits of work; of records; room; its token; _18 (6); …]
-        calls-at ! fm (Take 𝓤 H A mem run) known-take (to-take s ν δ ν′ δ′) (and-then ! (load ! (from ! (stop !)) (look ! 40 refl)) (and-then ! (load ! (from ! (stop !)) (look ! 22 refl)) (and-then ! (load ! (from ! (stop !)) (look ! 18 refl)) (and-then ! (load ! (from ! (fld ! refl (stop !))) (look-in ! 32 (sub ! 4 refl (whole !)))) (no-more !))))) (λ w.
-        use1 W (later (some (λ (z : Unit {0}). (Toks₃ s ν δ ν′ δ′ ⊛ ‵ (unit .own z (w ∷ []))) ⊛ raw (ensured 𝓤 H A take.ended (take.clauses 𝓤 H A mem run) (κj, (ν ∷ [], (ν′ ∷ [], tt))) (xj, (rc δ ys, (rw δ′ ws, (s .records, tt)))) tt z)))) (id⊢ 𝓤 _) $ await ! tt $ pick ! (λ z.
-        split ! $ move ! (1 ∷ []) $ use1 W (some (λ (zs : Unit {0} × (List Record × (List ℕ × (Unit {0} × Unit {0})))). ‵ (lasts take.ended (κj, (ν ∷ [], (ν′ ∷ [], tt))) (xj, (rc δ ys, (rw δ′ ws, (s .records, tt)))) zs) ⊛ raw (fact 𝓤 (Handed (xj .now) ys ws (s .records) (zs .1 .0) (zs .1 .1 .0))))) (id⊢ 𝓤 _) $ pick ! (λ zs.
-        split ! $ move ! (1 ∷ []) $ heard ! (Handed (xj .now) ys ws (s .records) (zs .1 .0) (zs .1 .1 .0)) (λ e. fsplit ! $ drop ! $ fsplit ! $ fsplit ! $ move ! (1 ∷ []) $ feqL ! (λ lc. move ! (1 ∷ []) $ fsplit ! $ fsplit ! $ move ! (1 ∷ []) $ feqL ! (λ lw.
-        -- [work's last list; …; records's; the tokens and the result; job; what waits of work; of records; room; its token; _18 (9); …]
-        move ! (3 ∷ []) $ split ! $ move ! (1 ∷ []) $ peeks ! unit (Is unit) (shows 𝓤 H A unit) z (w ∷ []) (λ done-is.
-        land ! (from ! (stop !)) (init ! 30 refl (nothing-lawful 𝓤 H A W .typed z (w ∷ []) done-is .0)) $ drop ! $ split ! $ move ! (1 ∷ []) $ split ! $
-        -- [ν's token; ν′'s ⊛ true; job's; work's last list; …; records's; job; what waits of work; of records; room; its token; _18 (11); …]
-        move ! (0 ∷ 5 ∷ 8 ∷ []) $ take-back 𝓤 H A W R κc qc γc bc oc ys (named 2) tt roomc ν δ (zs .1 .0) lc (
-        -- [records; its token; ν′'s ⊛ true; job's; work's last list; …; job; what waits of work; room; its token; _18 (10); …]
-        move ! (2 ∷ []) $ split ! $ move ! (0 ∷ 5 ∷ 8 ∷ []) $ take-back 𝓤 H A W u16 κw qw γw bw ow ws (named 3) tt roomw ν′ δ′ (zs .1 .1 .0) lw (
-        -- [work; its token; true; records; its token; job's; …; job; room; its token; _18 (10); …]
-        move ! (2 ∷ 6 ∷ []) $ drop ! $ drop ! $ move ! (2 ∷ 3 ∷ 0 ∷ 1 ∷ 6 ∷ 7 ∷ 5 ∷ 4 ∷ []) $
+        calls-at ! fm (Take 𝓤 H A mem run) known-take (to-take 𝓤 H A W mem run κj κc κw qj qc qw xj bc oc γc ys bw ow γw ws roomc roomw s ν δ ν′ δ′) (and-then ! (load ! (from ! (stop !)) (look ! 40 refl)) (and-then ! (load ! (from ! (stop !)) (look ! 22 refl)) (and-then ! (load ! (from ! (stop !)) (look ! 18 refl)) (and-then ! (load ! (from ! (fld ! refl (stop !))) (look-in ! 32 (sub ! 4 refl (whole !)))) (no-more !))))) (λ w.
+        gets-take 𝓤 H A W mem run κj κc κw qj qc qw xj bc oc γc ys bw ow γw ws roomc roomw s ν δ ν′ δ′ w tt (λ z zc zw e lc lw done-is.
+        land ! (from ! (stop !)) (init ! 29 refl (nothing-lawful 𝓤 H A W .typed z (w ∷ []) done-is .0)) $ backs-take 𝓤 H A W mem run κj κc κw qj qc qw xj bc oc γc ys bw ow γw ws roomc roomw s ν δ ν′ δ′ w z zc zw tt lc lw (
         forget ! 20 refl $ forget ! 22 refl $ forget ! 24 refl $ forget ! 26 refl $ forget ! 28 refl $
-        rewrite ! 0 (λ (k : ℕ). ‵ (MutSlice (named 2) κc R .own (rc γc (zs .1 .0)) (sliceVal (bc, oc) k ∷ []))) (sym lc) refl $ rewrite ! 38 (λ (k : ℕ). ‵ (fat fullShare τc l₃ 0 (sliceVal (bc, oc) k))) (sym lc) refl $
-        rewrite ! 2 (λ (k : ℕ). ‵ (MutSlice (named 3) κw u16 .own (rw γw (zs .1 .1 .0)) (sliceVal (bw, ow) k ∷ []))) (sym lw) refl $ rewrite ! 36 (λ (k : ℕ). ‵ (fat fullShare τw l₄ 0 (sliceVal (bw, ow) k))) (sym lw) refl $
-        finishes s is seen (zs .1 .0) (zs .1 .1 .0) e lc lw)))))))))))
+        rewrite ! 38 (λ (k : ℕ). ‵ (fat fullShare τc l₃ 0 (sliceVal (bc, oc) k))) (sym lc) refl $ rewrite ! 36 (λ (k : ℕ). ‵ (fat fullShare τw l₄ 0 (sliceVal (bw, ow) k))) (sym lw) refl $
+        finishes s is seen zc zw e lc lw))))))
       where
         fits : s .records < 2 ^ 64
         fits = LL.owed S.the-type S′.the-laws s _ is .1 .1 .1 .1 .0 .1
