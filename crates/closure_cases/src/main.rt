@@ -1,5 +1,5 @@
 // Runs document 01's small cases, and some of its sources', on the closure alone, and writes what it finds: after all records the numbers of classes and
-// of idle records and every tag's leader, and for a list of records whether it makes two tags equal. Rests on closure and table.
+// of idle records and every tag's leader, and for a list of records whether it makes two tags equal. Rests on history, following, closure and table.
 //
 // The cases are read as lines of four characters: what to do, and up to three numbers for it, each a character as far behind 0 as it is large (so
 // : is 10, and a dot is none). What an instruction may not do is left undone, and says so by a line. The table holds sevens before the first case and
@@ -7,6 +7,7 @@
 ghost use mathlib.Core.Path.{_≡_};
 ghost use Prim.Native.Nat.{_≤_, _<_};
 ghost use lib.ListN.{length};
+ghost use Rattle.following.specs.Meeting.{Forested};
 ghost use Rattle.closure_cases.specs.Desk.{Ready};
 use meaning::RecordNo;
 use meaning::Tag;
@@ -52,13 +53,13 @@ fn number(n: usize) {
     io::print_decimal(1, n as u64);
 }
 
-// The leaders of all tags, once they are closed.
-fn leaders(work: &[u16], size: usize)
-    requires { ⌜ (32768 ≤ length (now work)) × (size ≤ 1000) ⌝ }
+// The leaders of all tags after so many joins, once they are closed.
+fn leaders(work: &[u16], joins: usize, size: usize)
+    requires { ⌜ Forested (now work) × (joins ≤ 1000) × (size ≤ 1000) ⌝ }
 {
     let mut x: usize = 0;
     while x < size {
-        let l = table::label(work, Tag(x as u16));
+        let l = following::meeting::leader(work, joins, Tag(x as u16));
         number(wide(l.0));
         x += 1;
     }
@@ -179,7 +180,7 @@ fn close(work: &mut [u16], d: Desk) -> Desk
     io::write_all(1, b" idle");
     number(t.idle);
     io::write_all(1, b" leaders");
-    leaders(work, size);
+    leaders(work, t.joins, size);
     Desk {
         size: size,
         len: len,

@@ -6,19 +6,19 @@ use Rattle.closure_cases.proofs.leaders.Statement.{statement}
 use Rattle.closure_cases.proofs.leaders.Tie as tie
 
 abbrev Inv-loop : tie.InvT-loop
-Inv-loop work size x₀ t5 x = x ≤ size
+Inv-loop work joins size x₀ t6 x = x ≤ size
 
 abbrev μ-loop : tie.MeasureT-loop
-μ-loop work size x₀ t5 x = size - x
+μ-loop work joins size x₀ t6 x = size - x
 
 loop-holds : tie.Need-loop-holds Inv-loop μ-loop
 loop-holds c = search needs
 
-cast-t7 : tie.Need-cast-t7 Inv-loop μ-loop
-cast-t7 c = search needs
+cast-t8 : tie.Need-cast-t8 Inv-loop μ-loop
+cast-t8 c = search needs
 
-label-requires : tie.Need-label-requires Inv-loop μ-loop
-label-requires c κs = search needs
+leader-requires : tie.Need-leader-requires Inv-loop μ-loop
+leader-requires c κs = search needs
 
 wide-requires : tie.Need-wide-requires Inv-loop μ-loop
 wide-requires c κs = search needs
@@ -51,8 +51,8 @@ leaders-spec =
     Inv-loop
     μ-loop
     loop-holds
-    cast-t7
-    label-requires
+    cast-t8
+    leader-requires
     wide-requires
     number-requires
     add-x
