@@ -77,6 +77,10 @@ module _ {N len n : ℕ} {w : List ℕ} (P : Past N len w n) where
   pub age-after-most : (k : ℕ) → ageAfter w n k ≤ n
   age-after-most k = count-low (λ a. leb (whenOf w a) k) n
 
+  -- The age of a moment is that of a join, or one more.
+  pub age-low : (k a : ℕ) → a ≡ ageAfter w n k → a ≤ 1000
+  age-low k a e = omega (arith, age-after-most k, P .history .room)
+
   -- A join has been made once its own record is in.
   pub made-by : (b : ℕ) → b < n → b < ageAfter w n (whenOf w b)
   made-by b l = front-in (whenOf w) (whenOf w b) n (P .order) b l (omega arith)

@@ -11,7 +11,7 @@ use Rattle.history.specs.Past.{Past, ageAfter}
 use Rattle.report_read.proofs.Read.{true-or-false}
 use Rattle.following.specs.Meeting.{leaderAt}
 use Rattle.following.proofs.Kept.{past-forest}
-use Rattle.following.proofs.Moments.{leader-after, age-after-most}
+use Rattle.following.proofs.Moments.{leader-after, age-low}
 use Rattle.field_test.proofs.Right.{led-right, led-wrong, pair-room}
 use Rattle.field_test.proofs.led.Statement.{statement}
 use Rattle.field_test.proofs.led.Tie as tie
@@ -19,19 +19,15 @@ use Rattle.field_test.proofs.led.Tie as tie
 age-after-requires : tie.Need-age-after-requires
 age-after-requires c κs = let start = c .before .before in (start .pre .0 .past .loaded .long, omega (arith, start .pre .0 .past .low, start .pre .0 .past .loaded .few))
 
--- The age of a moment is that of a join, or one more.
-age-low : {N len n : ℕ} {w : List ℕ} → Past N len w n → (R a : ℕ) → a ≡ ageAfter w n R → a ≤ 1000
-age-low P R a e = omega (arith, age-after-most P R, P .history .room)
-
 leader-requires : tie.Need-leader-requires
 leader-requires c κs =
     let start = c .before .before .before in
-    (past-forest (start .pre .0 .past), (age-low (start .pre .0 .past) (start .args .q .before) _ (c .age-after .ensures), omega (arith, start .pre .0 .from, start .pre .0 .past .loaded .few)))
+    (past-forest (start .pre .0 .past), (age-low (start .pre .0 .past) _ _ (c .age-after .ensures), omega (arith, start .pre .0 .from, start .pre .0 .past .loaded .few)))
 
 leader-requires-2 : tie.Need-leader-requires-2
 leader-requires-2 c κs =
     let start = c .before .before .before .before in
-    (past-forest (start .pre .0 .past), (age-low (start .pre .0 .past) (start .args .q .before) _ (c .before .age-after .ensures), omega (arith, start .pre .0 .to, start .pre .0 .past .loaded .few)))
+    (past-forest (start .pre .0 .past), (age-low (start .pre .0 .past) _ _ (c .before .age-after .ensures), omega (arith, start .pre .0 .to, start .pre .0 .past .loaded .few)))
 
 is-led-requires : tie.Need-is-led-requires
 is-led-requires c κs = let start = c .before .before .before .before .before in start .pre .1
