@@ -22,12 +22,12 @@ age-after-requires c κs = let start = c .before .before in (start .pre .0 .past
 leader-requires : tie.Need-leader-requires
 leader-requires c κs =
     let start = c .before .before .before in
-    (past-forest (start .pre .0 .past), (age-low (start .pre .0 .past) _ _ (c .age-after .ensures), omega (arith, start .pre .0 .from, start .pre .0 .past .loaded .few)))
+    (past-forest (start .pre .0 .past), (omega (arith, age-low (start .pre .0 .past) _ _ (c .age-after .ensures)), omega (arith, start .pre .0 .from, start .pre .0 .past .loaded .few)))
 
 leader-requires-2 : tie.Need-leader-requires-2
 leader-requires-2 c κs =
     let start = c .before .before .before .before in
-    (past-forest (start .pre .0 .past), (age-low (start .pre .0 .past) _ _ (c .before .age-after .ensures), omega (arith, start .pre .0 .to, start .pre .0 .past .loaded .few)))
+    (past-forest (start .pre .0 .past), (omega (arith, age-low (start .pre .0 .past) _ _ (c .before .age-after .ensures)), omega (arith, start .pre .0 .to, start .pre .0 .past .loaded .few)))
 
 is-led-requires : tie.Need-is-led-requires
 is-led-requires c κs = let start = c .before .before .before .before .before in start .pre .1

@@ -24,13 +24,13 @@ leader-requires : tie.Need-leader-requires
 leader-requires c κs =
     let s = c .before .before .before in
     let f = s .pre in
-    (past-forest (f .past), (age-low (f .past) _ _ (c .age-after .ensures), omega (arith, f .tags .0, f .past .loaded .few)))
+    (past-forest (f .past), (omega (arith, age-low (f .past) _ _ (c .age-after .ensures)), omega (arith, f .tags .0, f .past .loaded .few)))
 
 leader-requires-2 : tie.Need-leader-requires-2
 leader-requires-2 c κs =
     let s = c .before .before .before .before in
     let f = s .pre in
-    (past-forest (f .past), (age-low (f .past) _ _ (c .before .age-after .ensures), omega (arith, f .tags .1, f .past .loaded .few)))
+    (past-forest (f .past), (omega (arith, age-low (f .past) _ _ (c .before .age-after .ensures)), omega (arith, f .tags .1, f .past .loaded .few)))
 
 write-led-requires : tie.Need-write-led-requires
 write-led-requires c κs = c .before .before .before .before .before .before .pre .fits
