@@ -38,7 +38,7 @@ use Rattle.records.proofs.Lent.{take-back}
 use Rattle.records.proofs.clear as blank′
 use Rattle.fill.specs.Handing.{Handable, Handed}
 use Rattle.fill.proofs.take_in as take
-use Rattle.parts.specs.declared.Sight.{Sight}
+use Rattle.sight.specs.declared.Sight.{Sight}
 
 module _ {M : Type 1} (𝓤 : URA M) (H : Heap 𝓤) (A : Atoms 𝓤) (mem : Memory → SProp 𝓤) (run : Routine → Fun 𝓤) where
   abbrev pub Take : Contract 𝓤

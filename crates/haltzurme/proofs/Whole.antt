@@ -16,20 +16,22 @@ use Rattle.records.proofs.Cleared.{blanked-over}
 use Rattle.table.specs.Map.{recordsIn, Loaded}
 use Rattle.table.proofs.Frame.{within-wider}
 use Rattle.fill.specs.Handing.{Counts, Handable, Handed}
-use Rattle.parts.specs.declared.Sight.{Sight}
+use Rattle.sight.specs.declared.Sight.{Sight}
 use Rattle.haltzurme.specs.Run as r
 use Rattle.parts.specs.Clear.{Cleared}
 use Rattle.haltzurme.specs.Run.{Lent, Emptied, Ran}
-use Rattle.parts.specs.Look as l
-use Rattle.parts.specs.Look.{Looked}
+use Rattle.sight.specs.Look as l
+use Rattle.sight.specs.Look.{Looked}
 use Rattle.parts.specs.Finish as f
 use Rattle.parts.specs.Finish.{Begun, Finished}
 use Rattle.parts.specs.Weigh as v
 use Rattle.haltzurme.specs.Recheck as c
-use Rattle.parts.specs.Weigh.{Viewed, Opened, Weighed}
+use Rattle.parts.specs.Weigh.{Opened, Weighed}
+use Rattle.sight.specs.View as sees
+use Rattle.sight.specs.View.{Viewed}
 use Rattle.haltzurme.specs.Recheck.{Rechecked}
 use Rattle.parts.proofs.Clearing.{cleared-after}
-use Rattle.parts.proofs.Ready.{Ready, looked-ready, viewed-ready, same-items}
+use Rattle.sight.proofs.Ready.{Ready, looked-ready, viewed-ready, same-items}
 
 -- All of the records are asked for, or none.
 looked-counts : {job : List ℕ} {room : ℕ} {b : Bool} {n p N k : ℕ} → Looked job room b n p N k → (k ≡ 0) ⊎ Counts job k
@@ -38,8 +40,8 @@ looked-counts (l.cramped e h) = inl refl
 looked-counts (l.ready {N = N} {items = items} e h) = inr (record { size = N; items = items; reads = e; records = refl })
 
 viewed-counts : {job : List ℕ} {b : Bool} {n p N k m : ℕ} → Viewed job b n p N k m → (k ≡ 0) ⊎ Counts job k
-viewed-counts (v.unread e) = inl refl
-viewed-counts (v.ready {N = N} {items = items} e) = inr (record { size = N; items = items; reads = e; records = refl })
+viewed-counts (sees.unread e) = inl refl
+viewed-counts (sees.ready {N = N} {items = items} e) = inr (record { size = N; items = items; reads = e; records = refl })
 
 -- What both calls share: the records are in the columns, and the tables are emptied in the end.
 module _ (job : List ℕ) (t : List Record) (w : List ℕ) (s : Sight) (h : Lent job t w) (t′ : List Record) (w′ : List ℕ) (d : Handed job t w (s .records) t′ w′) where

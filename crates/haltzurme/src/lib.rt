@@ -1,5 +1,5 @@
 // The tool's calls. Document 01, "What is lent, and each refusal". No call here has a condition on its caller: every job, room and table
-// gets the answer that specs/ defines. Rests on job, records, fill and parts.
+// gets the answer that specs/ defines. Rests on job, records, fill, sight and parts.
 ghost use mathlib.Core.Path.{_≡_};
 ghost use Prim.Native.Nat.{ℕ, _+_, _≤_, _<_};
 ghost use lib.ListN.{length};
@@ -10,11 +10,11 @@ pub use parts::Answer;
 pub use parts::Finding;
 pub use parts::NAMED;
 use parts::finish;
-use parts::look;
-use parts::view;
 use parts::weigh;
 use records::Record;
 use records::clear as blank_out;
+use sight::look;
+use sight::view;
 
 // Document 01's limits: the longest job, and the named places of the record table; those of the work table are NAMED.
 pub const LONGEST: usize = 43008;

@@ -23,16 +23,18 @@ use Rattle.answers.proofs.Whole.{columns-kept}
 use Rattle.recheck.specs.Judging as g
 use Rattle.recheck.specs.Judging.{Judgeable, Judged, Verdict}
 use Rattle.recheck.specs.declared.Judgement.{Judgement}
-use Rattle.parts.specs.declared.Sight.{Sight}
+use Rattle.sight.specs.declared.Sight.{Sight}
 use Rattle.parts.specs.Clear.{Cleared}
-use Rattle.parts.specs.Look as l
-use Rattle.parts.specs.Look.{Looked}
+use Rattle.sight.specs.Look as l
+use Rattle.sight.specs.Look.{Looked}
 use Rattle.parts.specs.Finish as f
 use Rattle.parts.specs.Finish.{Begun, Finished}
 use Rattle.parts.specs.Weigh as c
-use Rattle.parts.specs.Weigh.{Viewed, Opened, Weighed, findingOf}
+use Rattle.parts.specs.Weigh.{Opened, Weighed, findingOf}
+use Rattle.sight.specs.View as sees
+use Rattle.sight.specs.View.{Viewed}
 use Rattle.parts.proofs.Clearing.{cleared-after}
-use Rattle.parts.proofs.Ready.{Ready, looked-ready, viewed-ready}
+use Rattle.sight.proofs.Ready.{Ready, looked-ready, viewed-ready}
 
 -- The needed room was compared.
 looked-fits : {job : List ℕ} {room : ℕ} {b : Bool} {n p N k : ℕ} → Looked job room b n p N k → b ≡ true → neededRoom N 0 (itemsIn job) ≤ room
@@ -47,8 +49,8 @@ looked-refused (l.cramped e h) q x = f.cramped e h x
 looked-refused (l.ready e h) q x = let z : _≡_ {A = ℕ} 0 1 = cc in absurd (omega arith)
 
 viewed-refused : {job report w w′ : List ℕ} {b : Bool} {n p N k m : ℕ} → Viewed job b n p N k m → b ≡ false → Cleared w w′ → Weighed job report w n p w′
-viewed-refused (c.unread e) q x = c.unread e x
-viewed-refused (c.ready e) q x = let z : _≡_ {A = ℕ} 0 1 = cc in absurd (omega arith)
+viewed-refused (sees.unread e) q x = c.unread e x
+viewed-refused (sees.ready e) q x = let z : _≡_ {A = ℕ} 0 1 = cc in absurd (omega arith)
 
 -- The run.
 module _ (job room w : List ℕ) (s : Sight) (h : Begun job room w s) where

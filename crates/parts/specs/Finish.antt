@@ -10,9 +10,9 @@ use Rattle.job.specs.Items.{Item, refused, accepted, recordsOf, neededRoom}
 use Rattle.job.specs.Reading.{reading}
 use Rattle.table.specs.Map.{recordsIn, Loaded}
 use Rattle.report.specs.Report.{Sound}
-use Rattle.parts.specs.declared.Sight.{Sight}
+use Rattle.sight.specs.declared.Sight.{Sight}
 use Rattle.parts.specs.Clear.{Cleared}
-use Rattle.parts.specs.Look.{Looked}
+use Rattle.sight.specs.Look.{Looked}
 
 -- What was seen of the job and the room, and that where the run may go on the columns hold the job's records, with tags below N.
 pub record Begun (job room work : List ℕ) (s : Sight) : Type 0 where

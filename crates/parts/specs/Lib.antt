@@ -1,4 +1,3 @@
 pub mod Clear
-pub mod Look
 pub mod Finish
 pub mod Weigh

@@ -3,10 +3,10 @@
 -- Assumes nothing.
 use Prim.Native.Nat.{ℕ, _≤_}
 use mathlib.Core.Path.{_≡_}
-use mathlib.Core.Bool.{Bool, true, false}
+use mathlib.Core.Bool.{true}
 use mathlib.Core.List.{List}
 use lib.ListN.{length}
-use Rattle.job.specs.Items.{Item, refused, accepted, recordsOf, neededRoom}
+use Rattle.job.specs.Items.{Item, refused, accepted, recordsOf}
 use Rattle.job.specs.Reading.{reading}
 use Rattle.table.specs.Map.{recordsIn, Loaded}
 use Rattle.report.specs.Report.{Sound}
@@ -14,13 +14,9 @@ use Rattle.report.specs.Fault.{FaultAt}
 use Rattle.recheck.specs.declared.Judgement.{Judgement}
 use Rattle.recheck.specs.declared.Judgement.the-variants as j
 use Rattle.parts.specs.declared.Finding.{Finding}
-use Rattle.parts.specs.declared.Sight.{Sight}
+use Rattle.sight.specs.declared.Sight.{Sight}
+use Rattle.sight.specs.View.{Viewed}
 use Rattle.parts.specs.Clear.{Cleared}
-
--- What is known of a job before anything is stored: a refusal, or N, the number of records and the room that a report needs.
-pub data Viewed (job : List ℕ) : Bool → ℕ → ℕ → ℕ → ℕ → ℕ → Type 0 where
-  unread : {n p : ℕ} → reading job ≡ refused n p → Viewed job false n p 0 0 0
-  ready : {N : ℕ} {items : List Item} → reading job ≡ accepted N items → Viewed job true 0 0 N (length (recordsOf items)) (neededRoom N 0 items)
 
 -- The part of a recheck that has no record table in sight begins with what was seen of the job, and where it may go on with the job's
 -- records in the columns, with tags below N.

@@ -1,20 +1,17 @@
-// The parts of the tool's calls that see no record table: what is known once the job has been read, and the rest of each call once its records
-// stand in the work table. Document 01, "What is lent, and each refusal". Rests on job_read, labels, closure, answers and recheck.
+// The parts of the tool's calls that see no record table: the rest of each call once the job has been read and its records stand in the work
+// table. Document 01, "What is lent, and each refusal". Rests on sight, labels, history, answers and recheck.
 ghost use mathlib.Core.Path.{_≡_};
 ghost use Prim.Native.Nat.{ℕ, _≤_};
 ghost use lib.ListN.{length};
 ghost use Rattle.parts.specs.Clear.{Cleared};
-ghost use Rattle.parts.specs.Look.{Looked};
 ghost use Rattle.parts.specs.Finish.{Begun, Finished};
-ghost use Rattle.parts.specs.Weigh.{Viewed, Opened, Weighed, findingOf};
+ghost use Rattle.parts.specs.Weigh.{Opened, Weighed, findingOf};
 use answers::respond;
 use history::close;
-use job::number_of;
-use job_read::Answer as Read;
-use job_read::read_job;
 use labels::fill;
 use recheck::Judgement;
 use recheck::judge;
+use sight::Sight;
 
 // The named places of the work table.
 pub const NAMED: usize = 32768;
@@ -30,71 +27,6 @@ pub struct Answer {
 pub struct Finding {
     pub number: u8,
     pub place: usize,
-}
-
-// What is known once the job has been read: whether the run may go on, or the refusal; N, the number of records, and the room
-// that the report needs, which is 0 for a refusal.
-pub struct Sight {
-    pub ready: bool,
-    pub number: u8,
-    pub place: usize,
-    pub size: usize,
-    pub records: usize,
-    pub needed: usize,
-}
-
-// A number of two bytes, as a place.
-fn wide(x: u16) -> usize
-    ensures { λ r. ⌜ r ≡ x ⌝ }
-{
-    x as usize
-}
-
-// Numbers 3 to 8, in their order.
-pub fn view(job: &[u8]) -> Sight
-    ensures { λ r. ⌜ Viewed (now (job .entry)) (r .ready) (r .number) (r .place) (r .size) (r .records) (r .needed) ⌝ }
-{
-    match read_job(job) {
-        Read::Refused { fault, place } => Sight {
-            ready: false,
-            number: number_of(fault),
-            place,
-            size: 0,
-            records: 0,
-            needed: 0,
-        },
-        Read::Accepted {
-            size,
-            records,
-            questions: _,
-            room,
-        } => Sight {
-            ready: true,
-            number: 0,
-            place: 0,
-            size: wide(size),
-            records: wide(records),
-            needed: room,
-        },
-    }
-}
-
-// Numbers 3 to 9, in their order: a refusal needs no room, so 9 is last.
-pub fn look(job: &[u8], room: usize) -> Sight
-    ensures { λ r. ⌜ Looked (now (job .entry)) room (r .ready) (r .number) (r .place) (r .size) (r .records) ⌝ }
-{
-    let s = view(job);
-    if room < s.needed {
-        return Sight {
-            ready: false,
-            number: 9,
-            place: 0,
-            size: 0,
-            records: 0,
-            needed: 0,
-        };
-    }
-    s
 }
 
 // The named places of the work table become zero.

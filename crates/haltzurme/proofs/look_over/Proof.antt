@@ -51,21 +51,22 @@ use Rattle.fill.specs.Handing.{Handed}
 use Rattle.fill.proofs.take_in.Symbol as take-def
 use Rattle.fill.proofs.take_in.Symbol.{name as #fill·take-in}
 use Rattle.fill.proofs.take_in.Met as take-thm
-use Rattle.parts.specs.declared.Sight.{Sight}
+use Rattle.sight.specs.declared.Sight.{Sight}
 use Rattle.parts.specs.declared.Finding.{Finding}
 use Rattle.haltzurme.specs.Run.{Lent}
-use Rattle.parts.specs.Weigh.{Viewed, Opened, Weighed}
+use Rattle.parts.specs.Weigh.{Opened, Weighed}
+use Rattle.sight.specs.View.{Viewed}
 use Rattle.haltzurme.specs.Recheck.{Rechecked}
 use Rattle.haltzurme.proofs.Around.{Take, Blank, to-take, puts-take, gets-take, backs-take, to-blank, goes-blank, gets-blank}
 use Rattle.haltzurme.proofs.Whole.{viewed-handable, handed-opened, weighed-rechecked}
-use Rattle.parts.proofs.Sight as S
-use Rattle.parts.proofs.Sight.Laws as S′
+use Rattle.sight.proofs.Sight as S
+use Rattle.sight.proofs.Sight.Laws as S′
 use Rattle.parts.proofs.Finding as N
 use Rattle.parts.proofs.Finding.Laws as N′
-use Rattle.parts.proofs.view as view
-use Rattle.parts.proofs.view.Symbol as view-def
-use Rattle.parts.proofs.view.Symbol.{name as #parts·view}
-use Rattle.parts.proofs.view.Met as view-thm
+use Rattle.sight.proofs.view as view
+use Rattle.sight.proofs.view.Symbol as view-def
+use Rattle.sight.proofs.view.Symbol.{name as #sight·view}
+use Rattle.sight.proofs.view.Met as view-thm
 use Rattle.parts.proofs.weigh as weigh
 use Rattle.parts.proofs.weigh.Symbol as weigh-def
 use Rattle.parts.proofs.weigh.Symbol.{name as #parts·weigh}
@@ -260,7 +261,7 @@ module _ {M : Type 1} (𝓤 : URA M) (H : Heap 𝓤) (A : Atoms 𝓤) (W : Given
         -- [work's token; true; report's; job's; work's last list; report; job; records; its token; …]
         move ! (1 ∷ []) $ drop ! $ move ! (6 ∷ 7 ∷ 0 ∷ 3 ∷ 1 ∷ 4 ∷ 5 ∷ 2 ∷ []) $ k
 
-  module _ (C : Calls 𝓤 H) (Λ : Loops 𝓤 H) (fm : FmC 𝓤 H (W .laws) C) (known-view : Triple 𝓤 (C #parts·view) (View 𝓤 H A mem run)) (known-take : Triple 𝓤 (C #fill·take-in) (Take 𝓤 H A mem run))
+  module _ (C : Calls 𝓤 H) (Λ : Loops 𝓤 H) (fm : FmC 𝓤 H (W .laws) C) (known-view : Triple 𝓤 (C #sight·view) (View 𝓤 H A mem run)) (known-take : Triple 𝓤 (C #fill·take-in) (Take 𝓤 H A mem run))
       (known-weigh : Triple 𝓤 (C #parts·weigh) (Weigh 𝓤 H A mem run)) (known-blank : Triple 𝓤 (C #records·clear) (Blank 𝓤 H A mem run))
       (l₀ l₁ l₂ l₃ l₄ l₅ l₆ l₇ l₈ l₉ l₁₀ l₁₁ l₁₂ l₁₃ l₁₄ l₁₅ : ℕ) where
     abbrev En : Env 𝓤 H
@@ -365,7 +366,7 @@ module _ {M : Type 1} (𝓤 : URA M) (H : Heap 𝓤) (A : Atoms 𝓤) (W : Given
         rewrite ! 28 (λ (v : Val). ‵ (fat fullShare S′.mir l₅ 0 v)) (ap only (stells s (w ∷ []) is)) refl $
         takes-in s (subst (Is SR s) (stells s (w ∷ []) is) is) seen))))
 
-  walk : (𝓣 : Tables 𝓤 H) → Triple 𝓤 (𝓣 .C #parts·view) (View 𝓤 H A mem run) → Triple 𝓤 (𝓣 .C #fill·take-in) (Take 𝓤 H A mem run) → Triple 𝓤 (𝓣 .C #parts·weigh) (Weigh 𝓤 H A mem run) → Triple 𝓤 (𝓣 .C #records·clear) (Blank 𝓤 H A mem run)
+  walk : (𝓣 : Tables 𝓤 H) → Triple 𝓤 (𝓣 .C #sight·view) (View 𝓤 H A mem run) → Triple 𝓤 (𝓣 .C #fill·take-in) (Take 𝓤 H A mem run) → Triple 𝓤 (𝓣 .C #parts·weigh) (Weigh 𝓤 H A mem run) → Triple 𝓤 (𝓣 .C #records·clear) (Blank 𝓤 H A mem run)
       → ent 𝓤 (onEntry 𝓤 H A f.signature (κj, (κr, (κc, (κw, tt)))) (qj, (qr, (qc, (qw, tt)))) x at) (WpFn 𝓤 H (𝓣 .C) (𝓣 .Λ) code.function (vj ∷ vr ∷ vC ys ∷ vW ws ∷ []) Ends)
   walk 𝓣 known-view known-take known-weigh known-blank =
       qed W (Toks ∷ ‵ (owns (ShrSlice (named 0) κj u8 ∷ ShrSlice (named 1) κr u8 ∷ MutSlice (named 2) κc R ∷ MutSlice (named 3) κw u16 ∷ []) x at) ∷ []) ∵ enter ! (𝓣 .C) (𝓣 .Λ) code.function (vj ∷ vr ∷ vC ys ∷ vW ws ∷ []) _ $
@@ -380,7 +381,7 @@ module _ {M : Type 1} (𝓤 : URA M) (H : Heap 𝓤) (A : Atoms 𝓤) (W : Given
       views (𝓣 .C) (𝓣 .Λ) (fmOf 𝓤 H (W .laws) 𝓣) known-view known-take known-weigh known-blank l₀ l₁ l₂ l₃ l₄ l₅ l₆ l₇ l₈ l₉ l₁₀ l₁₁ l₁₂ l₁₃ l₁₄ l₁₅))))))))))))))))
 
 module _ {M : Type 1} (𝓤 : URA M) (H : Heap 𝓤) (A : Atoms 𝓤) (W : Given 𝓤 H A) (mem : Memory → SProp 𝓤) (run : Routine → Fun 𝓤) where
-  look-over-walks : (𝓣 : Tables 𝓤 H) → Triple 𝓤 (𝓣 .C #parts·view) (View 𝓤 H A mem run) → Triple 𝓤 (𝓣 .C #fill·take-in) (Take 𝓤 H A mem run) → Triple 𝓤 (𝓣 .C #parts·weigh) (Weigh 𝓤 H A mem run) → Triple 𝓤 (𝓣 .C #records·clear) (Blank 𝓤 H A mem run)
+  look-over-walks : (𝓣 : Tables 𝓤 H) → Triple 𝓤 (𝓣 .C #sight·view) (View 𝓤 H A mem run) → Triple 𝓤 (𝓣 .C #fill·take-in) (Take 𝓤 H A mem run) → Triple 𝓤 (𝓣 .C #parts·weigh) (Weigh 𝓤 H A mem run) → Triple 𝓤 (𝓣 .C #records·clear) (Blank 𝓤 H A mem run)
       → Walks 𝓤 H A f.ended stayed (WpFn 𝓤 H (𝓣 .C) (𝓣 .Λ) code.function) (f.clauses 𝓤 H A mem run)
   look-over-walks 𝓣 known-view known-take known-weigh known-blank = walked 𝓤 H A f.ended stayed (f.clauses 𝓤 H A mem run) (WpFn 𝓤 H (𝓣 .C) (𝓣 .Λ) code.function)
       (λ κs. (slice-vals, (slice-vals, (slice-vals, (slice-vals, tt)))))
@@ -389,7 +390,7 @@ module _ {M : Type 1} (𝓤 : URA M) (H : Heap 𝓤) (A : Atoms 𝓤) (W : Given
       walk 𝓤 H A W mem run (κs .0) (κs .1 .0) (κs .1 .1 .0) (κs .1 .1 .1 .0) (qs .0) (qs .1 .0) (qs .1 .1 .0) (qs .1 .1 .1 .0) (a .0) (a .1 .0) (a .1 .1 .0 .ptr .0) (a .1 .1 .0 .ptr .1) (a .1 .1 .0 .name) (a .1 .1 .0 .now)
       (a .1 .1 .1 .0 .ptr .0) (a .1 .1 .1 .0 .ptr .1) (a .1 .1 .1 .0 .name) (a .1 .1 .1 .0 .now) (are .0 .0 .1) (are .1 .0 .0 .1) (are .1 .1 .0 .0 .1) (are .1 .1 .1 .0 .0 .1) can 𝓣 known-view known-take known-weigh known-blank))
 
-look-over-meets : {M : Type 1} (𝓤 : URA M) (H : Heap 𝓤) (A : Atoms 𝓤) → Given 𝓤 H A → (mem : Memory → SProp 𝓤) (run : Routine → Fun 𝓤) (𝓣 : Tables 𝓤 H) → Triple 𝓤 (𝓣 .C #parts·view) (View 𝓤 H A mem run) → Triple 𝓤 (𝓣 .C #fill·take-in) (Take 𝓤 H A mem run)
+look-over-meets : {M : Type 1} (𝓤 : URA M) (H : Heap 𝓤) (A : Atoms 𝓤) → Given 𝓤 H A → (mem : Memory → SProp 𝓤) (run : Routine → Fun 𝓤) (𝓣 : Tables 𝓤 H) → Triple 𝓤 (𝓣 .C #sight·view) (View 𝓤 H A mem run) → Triple 𝓤 (𝓣 .C #fill·take-in) (Take 𝓤 H A mem run)
     → Triple 𝓤 (𝓣 .C #parts·weigh) (Weigh 𝓤 H A mem run) → Triple 𝓤 (𝓣 .C #records·clear) (Blank 𝓤 H A mem run) → Meets 𝓤 H A f.signature (WpFn 𝓤 H (𝓣 .C) (𝓣 .Λ) code.function) (f.spec 𝓤 H A mem run)
 look-over-meets 𝓤 H A W mem run 𝓣 known-view known-take known-weigh known-blank =
     walk-meets 𝓤 H A f.ended stayed W (goes-none-slice 𝓤 H A W 4 (0 ∷ []) tt (plain (λ _. u8)) yes, (goes-none-slice 𝓤 H A W 4 (1 ∷ []) tt (plain (λ _. u8)) yes, (goes-gave-slice 𝓤 H A W 4 2 tt (plain (λ _. R)), (goes-gave-slice 𝓤 H A W 4 3 tt (plain (λ _. u16)), tt))))
@@ -401,7 +402,7 @@ look-over-spec 𝓤 H 𝓜 𝓖 𝓡 =
     entered 𝓤 H (tripleOf 𝓤 H (𝓖 .A) f.signature (f.spec 𝓤 H (𝓖 .A) (𝓜 .mem) (𝓡 .run)))
     (tables 𝓤 H 𝓜 𝓡 code.env .C) (tables 𝓤 H 𝓜 𝓡 code.env .Λ) #haltzurme·look-over code.function (code.unfolded 𝓤 H 𝓜 𝓡)
     (look-over-meets 𝓤 H (𝓖 .A) (givenOf 𝓤 H 𝓜 𝓖) (𝓜 .mem) (𝓡 .run) (tablesOf 𝓤 H 𝓜 (tables 𝓤 H 𝓜 𝓡 code.env))
-    (cited 𝓤 H (View 𝓤 H (𝓖 .A) (𝓜 .mem) (𝓡 .run)) 𝓜 𝓡 code.env #parts·view view-def.routine code.calls-parts·view (view-thm.met 𝓤 H 𝓜 𝓖 𝓡))
+    (cited 𝓤 H (View 𝓤 H (𝓖 .A) (𝓜 .mem) (𝓡 .run)) 𝓜 𝓡 code.env #sight·view view-def.routine code.calls-sight·view (view-thm.met 𝓤 H 𝓜 𝓖 𝓡))
     (cited 𝓤 H (Take 𝓤 H (𝓖 .A) (𝓜 .mem) (𝓡 .run)) 𝓜 𝓡 code.env #fill·take-in take-def.routine code.calls-fill·take-in (take-thm.met 𝓤 H 𝓜 𝓖 𝓡))
     (cited 𝓤 H (Weigh 𝓤 H (𝓖 .A) (𝓜 .mem) (𝓡 .run)) 𝓜 𝓡 code.env #parts·weigh weigh-def.routine code.calls-parts·weigh (weigh-thm.met 𝓤 H 𝓜 𝓖 𝓡))
     (cited 𝓤 H (Blank 𝓤 H (𝓖 .A) (𝓜 .mem) (𝓡 .run)) 𝓜 𝓡 code.env #records·clear blank-def.routine code.calls-records·clear (blank-thm.met 𝓤 H 𝓜 𝓖 𝓡)))

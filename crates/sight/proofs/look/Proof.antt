@@ -1,9 +1,9 @@
--- `parts::look` meets its contract: the job is viewed, and the needed room is compared last.
+-- `sight::look` meets its contract: the job is viewed, and the needed room is compared last.
 -- Assumes nothing.
 use borrow.Author.Needs.{needs}
-use Rattle.parts.proofs.Ready.{viewed-cramped, viewed-roomy}
-use Rattle.parts.proofs.look.Statement.{statement}
-use Rattle.parts.proofs.look.Tie as tie
+use Rattle.sight.proofs.Ready.{viewed-cramped, viewed-roomy}
+use Rattle.sight.proofs.look.Statement.{statement}
+use Rattle.sight.proofs.look.Tie as tie
 use native.Mathlib.Omega.{arith}
 
 view-requires : tie.Need-view-requires

@@ -3,10 +3,10 @@
 -- Assumes nothing.
 use borrow.Author.Needs.{needs}
 use Rattle.job_read.proofs.Telling.{told-refused, told-accepted}
-use Rattle.parts.specs.Weigh.{unread}
-use Rattle.parts.proofs.Ready.{taken-viewed}
-use Rattle.parts.proofs.view.Statement.{statement}
-use Rattle.parts.proofs.view.Tie as tie
+use Rattle.sight.specs.View.{unread}
+use Rattle.sight.proofs.Ready.{taken-viewed}
+use Rattle.sight.proofs.view.Statement.{statement}
+use Rattle.sight.proofs.view.Tie as tie
 use denote.Ref.{now}
 
 read-job-requires : tie.Need-read-job-requires

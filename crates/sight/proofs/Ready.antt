@@ -9,10 +9,10 @@ use lib.ListN.{length}
 use Rattle.job.specs.Items.{Item, accepted, recordsOf}
 use Rattle.job.specs.Standing.{Taken}
 use Rattle.job.specs.Reading.{reading}
-use Rattle.parts.specs.Look as l
-use Rattle.parts.specs.Look.{Looked}
-use Rattle.parts.specs.Weigh as c
-use Rattle.parts.specs.Weigh.{Viewed}
+use Rattle.sight.specs.Look as l
+use Rattle.sight.specs.Look.{Looked}
+use Rattle.sight.specs.View as c
+use Rattle.sight.specs.View.{Viewed}
 
 -- What is known where the call may go on.
 pub record Ready (job : List ℕ) (N k : ℕ) : Type 0 where
