@@ -1,7 +1,7 @@
 -- From one item of the job to the next: what stands in the room goes on making a sound report of whatever is one of the items left.
 -- A record changes nothing but the count, and a question adds its field.
 -- Assumes nothing.
-use Prim.Native.Nat.{ℕ, zero, suc, _+_, _*_, _-_, _≤_, _<_, min}
+use Prim.Native.Nat.{ℕ, _+_, _*_, _-_, _≤_, _<_, min}
 use native.Mathlib.Numerals.{add-one}
 use native.Mathlib.Omega.{arith}
 use mathlib.Core.Path.{_≡_, refl, sym, _∙_, ap}
@@ -10,14 +10,13 @@ use mathlib.Core.List.{List, [], _∷_, _++_, append-assoc}
 use lib.ListN.{length, length-append}
 use Rattle.meaning.specs.Following.{Rec, eq, app}
 use Rattle.job.specs.Items.{Item, noted, ask, explain, recordsOf, neededRoom}
-use Rattle.job.specs.Reading.{Field, bad, header, item, end, fieldAt, spanOf, itemsIn}
+use Rattle.job.specs.Reading.{Field, bad, header, item, end, fieldAt, itemsIn}
 use Rattle.job.specs.Answer.{spanOfField}
-use Rattle.job.specs.Standing.{Tagged, Stands, Job, Met}
+use Rattle.job.specs.Standing.{Stands, Met}
 use Rattle.job.proofs.Standing.{stands-item, stands-end, stands-first, stands-last, stands-within}
-use Rattle.table.specs.Map.{recordsIn, Within}
+use Rattle.table.specs.Map.{Within}
 use Rattle.table.proofs.Frame.{within-refl, within-trans}
-use Rattle.history.specs.Past.{Past}
-use Rattle.report.specs.Report.{Answers, Sound, passed, answered, laid}
+use Rattle.report.specs.Report.{passed, answered, laid}
 use Rattle.report.proofs.Fits.{roomFor, answers-fits}
 use Rattle.report.proofs.Laid.{length-laid, laid-none, laid-then}
 use Rattle.following.proofs.Kept.{kept-past, kept-records}

@@ -1,43 +1,25 @@
 -- The pieces of a whole report: the columns are kept while the records are closed, and the totals close what the questions left.
 -- Assumes nothing.
-use Prim.Native.Nat.{ℕ, suc, _+_, _-_, _≤_, _<_}
+use Prim.Native.Nat.{ℕ, suc, _+_, _-_, _≤_}
 use native.Mathlib.Omega.{arith}
-use mathlib.Core.Path.{_≡_, refl, sym, _∙_, ap}
-use mathlib.Core.Logic.{inl}
+use mathlib.Core.Path.{_≡_, _∙_, ap}
 use mathlib.Core.List.{List, [], _∷_, _++_}
-use lib.ListN.{length, drop, length-append}
-use Rattle.meaning.specs.Following.{UpTo}
-use Rattle.meaning.specs.Totals.{Classes, Idles}
+use lib.ListN.{length, length-append}
 use Rattle.meaning.proofs.Laws.{idles-most}
 use Rattle.job.specs.Items.{recordsOf}
 use Rattle.job.specs.Reading.{itemsIn}
-use Rattle.table.specs.Map.{leftOf, rightOf, resultOf, recAt, recordsIn, Within}
-use Rattle.table.proofs.Frame.{seen-within, gather-same, length-gather, within-trans, within-wider}
+use Rattle.table.specs.Map.{recAt, recordsIn}
+use Rattle.table.proofs.Frame.{length-gather, within-trans, within-wider}
+use Rattle.table.proofs.Kept.{records-same}
 use Rattle.history.specs.Closing.{Closing}
 use Rattle.report.specs.Report.{numbers, field, total, totals, laid}
 use Rattle.report.proofs.Bytes.{length-field, length-numbers}
 use Rattle.report.proofs.Laid.{length-laid, laid-front, laid-then}
 use Rattle.answers.specs.Asking.{Asking, Told, Ready, Responded}
 
--- What is written behind the columns leaves the records.
-pub columns-kept : {e : ℕ} {w w′ : List ℕ} → Within 12003 e w w′ → (len : ℕ) → recordsIn len w′ ≡ recordsIn len w
-columns-kept {e} {w} {w′} f len = gather-same (λ k. recAt w′ (suc k)) (λ k. recAt w (suc k)) len (λ i l. same (suc i))
-  where
-    left : leftOf w′ ≡ leftOf w
-    left = seen-within 0 4001 (λ x. 0) f (inl (omega arith))
-
-    right : rightOf w′ ≡ rightOf w
-    right = seen-within 4001 4001 (λ x. 0) f (inl (omega arith))
-
-    result : resultOf w′ ≡ resultOf w
-    result = seen-within 8002 4001 (λ x. 0) f (inl (omega arith))
-
-    same : (k : ℕ) → recAt w′ k ≡ recAt w k
-    same k = rw (left, right, result)
-
 module _ {job room w : List ℕ} {N len : ℕ} (r : Ready job room w N len) {w₁ : List ℕ} {joins idle : ℕ} (c : Closing N len w w₁ joins idle) where
   records-after : recordsIn len w₁ ≡ recordsOf (itemsIn job)
-  records-after = columns-kept (c .kept) len ∙ r .records
+  records-after = records-same (c .kept) len ∙ r .records
 
   pub asking-after : Asking job w₁ N len joins
   asking-after = record { stands = r .stands; short = r .short; few = r .few; records = records-after; past = c .past }

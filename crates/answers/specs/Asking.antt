@@ -10,7 +10,7 @@ use Rattle.job.specs.Items.{Item, noted, ask, explain, recordsOf, neededRoom}
 use Rattle.job.specs.Reading.{Field, bad, header, item, end, spanOf, itemsIn}
 use Rattle.job.specs.Standing.{Stands, Job}
 use Rattle.table.specs.Map.{recordsIn, Loaded, Within}
-use Rattle.history.specs.Past.{Past}
+use Rattle.table.specs.Past.{Past}
 use Rattle.report.specs.Report.{Sound, laid}
 use Rattle.one_answer.specs.Facing.{Facing, Answered}
 

@@ -6,7 +6,7 @@ use native.Mathlib.Omega.{arith}
 use mathlib.Core.List.{List, _++_}
 use lib.ListN.{length, drop, length-append}
 use Rattle.records.specs.declared.Record.{Record}
-use Rattle.haltzurme.specs.Run.{Ran, long, narrow, unread, cramped, done}
+use Rattle.running.specs.Run.{Ran, long, narrow, unread, cramped, done}
 
 front : (bs rest : List ℕ) → length bs ≤ length (bs ++ rest)
 front bs rest = let e : length (bs ++ rest) ≡ length bs + length rest = rw length-append in omega (arith, e)

@@ -7,8 +7,8 @@ use mathlib.Core.List.{List}
 use lib.ListN.{length, replicate}
 use Rattle.records.specs.declared.Record.{Record}
 use Rattle.records.specs.Table.{blank}
-use Rattle.haltzurme.specs.Run.{Ran}
-use Rattle.haltzurme.specs.Recheck.{Rechecked}
+use Rattle.running.specs.Run.{Ran}
+use Rattle.rechecking.specs.Recheck.{Rechecked}
 
 -- The table that is lent: 4,000 places that hold the same record.
 abbrev pub filled : Record → List Record

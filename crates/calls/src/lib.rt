@@ -1,13 +1,13 @@
 // The tool's two calls for a caller that holds no record table: each lends one of its own, 4,000 places that are blank. Document 01, "What is
 // lent, and each refusal". No call here has a condition on its caller. The `_over` calls lend places that all hold a record of the caller's
-// choice, for tests with a dirty table. Rests on haltzurme.
+// choice, for tests with a dirty table. Rests on running and rechecking.
 ghost use Rattle.calls.specs.Plain.{RanOver, RecheckedOver, RanAlone, RecheckedAlone};
-use haltzurme::Answer;
-use haltzurme::Finding;
-use haltzurme::recheck;
-use haltzurme::run;
+use finishing::Answer;
 use meaning::Tag;
+use rechecking::recheck;
 use records::Record;
+use running::run;
+use weighing::Finding;
 
 // Answers a job: the report comes to the front of the room. Each place of the record table holds the same record.
 pub fn run_over(job: &[u8], room: &mut [u8], work: &mut [u16], each: Record) -> Answer

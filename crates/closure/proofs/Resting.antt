@@ -14,7 +14,8 @@ use Rattle.meaning.proofs.Close.{complete}
 use Rattle.table.specs.Map.{listOf, labelOf, gather, recordsIn, listIn, Within}
 use Rattle.table.proofs.Frame.{seen-within, within-trans, within-wider}
 use Rattle.labels.specs.Parts.{Fresh, Preserved, Restored}
-use Rattle.labels.proofs.Views.{few-room, records-same, fresh-labels, fresh-total}
+use Rattle.table.proofs.Kept.{records-same}
+use Rattle.labels.proofs.Views.{few-room, fresh-labels, fresh-total}
 use Rattle.closure.specs.Closing.{Listed, Entailing, Saved, Holding}
 use Rattle.passes.specs.declared.Task.{Task}
 use Rattle.passes.specs.State.{State, Rested}

@@ -9,7 +9,7 @@ use mathlib.Core.List.{List}
 use Rattle.meaning.proofs.Close.{more-of}
 use Rattle.table.specs.Map.{savedOf, Within}
 use Rattle.table.proofs.Frame.{seen-within}
-use Rattle.labels.proofs.Views.{records-same}
+use Rattle.table.proofs.Kept.{records-same}
 use Rattle.closure.specs.Closing.{Saved}
 
 pub saved-more : {N len joins : ℕ} {P Q : ℕ → Type 0} {w : List ℕ} → ((k : ℕ) → P k → Q k) → Saved N len P w joins → Saved N len Q w joins

@@ -15,7 +15,8 @@ use Rattle.table.proofs.Frame.{seen-within, within-trans, within-wider}
 use Rattle.labels.specs.Chain.{look}
 use Rattle.labels.specs.Parts.{reach, width, nextIn, headIn, Cleared, Restored}
 use Rattle.labels.proofs.Chain.{chains-none, filled-none, below, chains-insert, filled-insert}
-use Rattle.labels.proofs.Views.{bucket-low, head-is, few-room, lefts, rights, put-frame, put-heads, put-nexts}
+use Rattle.table.proofs.Kept.{lefts, rights}
+use Rattle.labels.proofs.Views.{bucket-low, head-is, few-room, put-frame, put-heads, put-nexts}
 use Rattle.passes.specs.declared.Task.{Task}
 use Rattle.closure.specs.Closing.{Listed, Telling}
 use Rattle.passes.specs.State.{keyOf, bucketIn, linkIn, Finding}

@@ -17,7 +17,7 @@ use Rattle.table.proofs.Frame.{seen-in, seen-within, within-wider, within-set}
 use Rattle.table.proofs.Columns.{stored, loaded-none, loaded-equation, loaded-application}
 use Rattle.closure.specs.Closing.{Listed, Entailing}
 use Rattle.history.specs.Closing.{Closing}
-use Rattle.labels.proofs.Views.{loaded-same}
+use Rattle.table.proofs.Kept.{loaded-same}
 use Rattle.passes.proofs.Views.{listed-same}
 
 -- One record more is loaded: the list is kept.

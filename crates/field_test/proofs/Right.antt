@@ -18,17 +18,19 @@ use Rattle.meaning.proofs.Close.{more-of}
 use Rattle.job.specs.Items.{ask, explain}
 use Rattle.table.specs.Map.{whenOf, recordsIn, listOf, listIn, Within}
 use Rattle.table.proofs.Frame.{within-refl, within-trans, within-wider, length-gather}
-use Rattle.history.specs.Past.{Past}
+use Rattle.table.specs.Past.{Past}
 use Rattle.following.specs.Meeting.{Met}
 use Rattle.following.proofs.Kept.{kept-records, kept-loaded}
 use Rattle.following.proofs.Moments.{met-join, met-first, met-later, met-never}
 use Rattle.report.specs.Report.{numbers, field, Answers, led, because, apart}
 use Rattle.report.specs.Fault.{Stands, stands}
-use Rattle.report_read.specs.Read.{Holds, FrontAt, whole, none, ListRead}
+use Rattle.report_read.specs.Read.{Holds, FrontAt, whole, none}
+use Rattle.reason_field.specs.Read.{ListRead}
 use Rattle.report_read.specs.declared.Front.{Front}
 use Rattle.report_read.specs.declared.Front.the-variants.{Field, Cut}
 use Rattle.report.proofs.Bytes.{length-field, length-numbers, numbers-one, field-one}
-use Rattle.report_read.proofs.Read.{holds-rest, holds-room, holds-one, field-body, field-room, is-not}
+use Rattle.meaning.proofs.Tests.{is-not}
+use Rattle.report_read.proofs.Read.{holds-rest, holds-room, holds-one, field-body, field-room}
 use Rattle.reason_test.specs.declared.Question.{Question}
 use Rattle.field_test.specs.declared.Passed.the-variants.{To, Wrong}
 use Rattle.reason_test.specs.Posed.{Deciding}

@@ -1,5 +1,5 @@
 // Whether the right answer to a question stands at a place of a report, over the table that the closure left. Document 01, "Reasons" and "The job
-// and the report". Rests on report, report_read, reasons and reason_test.
+// and the report". Rests on report, report_read, reason_field, reasons and reason_test.
 ghost use mathlib.Core.Path.{_≡_};
 ghost use Prim.Native.Nat.{_+_, _≤_};
 ghost use lib.ListN.{length};
@@ -61,7 +61,7 @@ fn is_own(report: &[u8], at: usize, bytes: usize, work: &mut [u16], q: Question)
             if 2 * count != bytes {
                 return false;
             }
-            report_read::is_list(report, at, work, count)
+            reason_field::is_list(report, at, work, count)
         }
     }
 }
@@ -85,7 +85,7 @@ fn meets(
     if count > 2 * (q.size - 1) {
         return false;
     }
-    report_read::read_reason(report, at, work, count);
+    reason_field::read_reason(report, at, work, count);
     if rises(work, count, first) {
         serves(work, count, q)
     } else {

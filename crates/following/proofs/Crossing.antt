@@ -19,7 +19,7 @@ use Rattle.meaning.proofs.Log.{linked-refl, linked-sym, linked-trans, linked-mo
 use Rattle.meaning.proofs.Walk.{walk-same, walk-by, walk-cong}
 use Rattle.table.specs.Map.{leftOf, rightOf, parentOf, ageOf, firstOf, secondOf, markOf, joinAt, recordsIn, Within}
 use Rattle.table.proofs.Frame.{seen-in, within-refl, within-trans, within-wider, within-set}
-use Rattle.history.specs.Past.{Past}
+use Rattle.table.specs.Past.{Past}
 use Rattle.following.specs.Meeting.{leaderAt, Met}
 use Rattle.following.specs.Tracing.{marked, Holds, Together, Crossed, Sided, Caused, Traced, Unmarked}
 use Rattle.following.proofs.Kept.{kept-parents, kept-ages, kept-records, kept-joins, kept-past, kept-holds, holds-fewer}

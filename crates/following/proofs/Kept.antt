@@ -1,6 +1,6 @@
 -- What lies before the list is not written while a reason is made: so the past stays, with its records, joins and links.
 -- Each region is one function, and equal functions say the same. Assumes nothing.
-use Prim.Native.Nat.{ℕ, suc, _≤_, _<_}
+use Prim.Native.Nat.{ℕ, _≤_, _<_}
 use native.Mathlib.Omega.{arith}
 use mathlib.Core.Path.{_≡_, ap, fun-ext}
 use mathlib.Core.Logic.{inl, inr}
@@ -10,9 +10,10 @@ use Rattle.meaning.specs.Following.{Rec}
 use Rattle.meaning.specs.Joins.{Join, Justified, count}
 use Rattle.meaning.specs.Forest.{root, Links, History}
 use Rattle.meaning.proofs.Exact.{Settled}
-use Rattle.table.specs.Map.{leftOf, rightOf, resultOf, parentOf, ageOf, firstOf, secondOf, whenOf, recAt, recordsIn, joinAt, Loaded, Within}
-use Rattle.table.proofs.Frame.{seen-within, gather-same}
-use Rattle.history.specs.Past.{Past}
+use Rattle.table.specs.Map.{leftOf, rightOf, resultOf, parentOf, ageOf, firstOf, secondOf, whenOf, recordsIn, joinAt, Loaded, Within}
+use Rattle.table.proofs.Frame.{seen-within, within-wider}
+use Rattle.table.proofs.Kept.{lefts, rights, results, loaded-same, records-same}
+use Rattle.table.specs.Past.{Past}
 use Rattle.following.specs.Meeting.{Forested}
 use Rattle.following.specs.Tracing.{marked, Holds}
 
@@ -34,14 +35,17 @@ module _ {e : ℕ} {w w′ : List ℕ} (f : Within 17003 e w w′) where
   pub kept-whens : whenOf w′ ≡ whenOf w
   kept-whens = seen-within 16003 1000 (λ x. 0) f (inl (omega arith))
 
+  columns : Within 12003 e w w′
+  columns = within-wider 12003 e (omega arith) (omega arith) f
+
   pub kept-left : (k : ℕ) → leftOf w′ k ≡ leftOf w k
-  kept-left k = ap (λ (h : ℕ → ℕ). h k) (seen-within 0 4001 (λ x. 0) f (inl (omega arith)))
+  kept-left k = ap (λ (h : ℕ → ℕ). h k) (lefts columns)
 
   pub kept-right : (k : ℕ) → rightOf w′ k ≡ rightOf w k
-  kept-right k = ap (λ (h : ℕ → ℕ). h k) (seen-within 4001 4001 (λ x. 0) f (inl (omega arith)))
+  kept-right k = ap (λ (h : ℕ → ℕ). h k) (rights columns)
 
   result-same : (k : ℕ) → resultOf w′ k ≡ resultOf w k
-  result-same k = ap (λ (h : ℕ → ℕ). h k) (seen-within 8002 4001 (λ x. 0) f (inl (omega arith)))
+  result-same k = ap (λ (h : ℕ → ℕ). h k) (results columns)
 
   pub kept-first : (k : ℕ) → firstOf w′ k ≡ firstOf w k
   kept-first k = ap (λ (h : ℕ → ℕ). h k) (seen-within 14003 1000 (λ x. 0) f (inl (omega arith)))
@@ -49,17 +53,14 @@ module _ {e : ℕ} {w w′ : List ℕ} (f : Within 17003 e w w′) where
   pub kept-second : (k : ℕ) → secondOf w′ k ≡ secondOf w k
   kept-second k = ap (λ (h : ℕ → ℕ). h k) (seen-within 15003 1000 (λ x. 0) f (inl (omega arith)))
 
-  record-same : (k : ℕ) → recAt w′ k ≡ recAt w k
-  record-same k = rw (kept-left k, kept-right k, result-same k)
-
   pub kept-records : (len : ℕ) → recordsIn len w′ ≡ recordsIn len w
-  kept-records len = gather-same (λ k. recAt w′ (suc k)) (λ k. recAt w (suc k)) len (λ i l. record-same (suc i))
+  kept-records = records-same columns
 
   pub kept-joins : joinAt w′ ≡ joinAt w
   kept-joins = fun-ext (λ a. rw (kept-first a, kept-second a, kept-left (firstOf w a), kept-right (firstOf w a), result-same (firstOf w a), result-same (secondOf w a)))
 
   pub kept-loaded : {N len : ℕ} → Loaded N len w → Loaded N len w′
-  kept-loaded h = record { long = rw (f .size) (h .long); some = h .some; few = h .few; most = h .most; small = λ k l. rw (record-same (suc k)) (h .small k l) }
+  kept-loaded = loaded-same columns
 
   bare : {N len n : ℕ} → Past N len w n → Bare N len n (recordsIn len w) (joinAt w) (parentOf w) (ageOf w) (whenOf w)
   bare h = record { history = h .history; justified = h .justified; made = h .made; order = h .order; moments = h .moments }

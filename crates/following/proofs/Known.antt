@@ -14,7 +14,7 @@ use Rattle.meaning.specs.Needed.{Arguments}
 use Rattle.meaning.proofs.Reference.{Small}
 use Rattle.table.specs.Map.{leftOf, rightOf, resultOf, firstOf, secondOf, recAt, recordsIn, joinAt, Loaded}
 use Rattle.table.proofs.Frame.{length-gather, getD-gather}
-use Rattle.history.specs.Past.{Past}
+use Rattle.table.specs.Past.{Past}
 
 -- What stands as record k of the table is what the columns say.
 pub record Stands (N len : ℕ) (w : List ℕ) (k : ℕ) (r : Rec) : Type 0 where

@@ -18,7 +18,7 @@ use Rattle.meaning.proofs.Forest.{root-stop, root-up, root-ind}
 use Rattle.meaning.proofs.Log.{linked-up}
 use Rattle.meaning.proofs.Exact.{settled-same, settled-leader}
 use Rattle.table.specs.Map.{parentOf, ageOf, whenOf, recordsIn}
-use Rattle.history.specs.Past.{Past, ageAfter, leaderAfter}
+use Rattle.table.specs.Past.{Past, ageAfter, leaderAfter}
 use Rattle.following.specs.Meeting.{leaderAt, Met}
 use Rattle.following.proofs.Kept.{links-all}
 

@@ -10,7 +10,7 @@ use Rattle.meaning.specs.Joins.{Supported}
 use Rattle.meaning.specs.Walk.{Walked}
 use Rattle.meaning.specs.Needed.{Aim, Needed}
 use Rattle.table.specs.Map.{leftOf, rightOf, firstOf, secondOf, markOf, joinAt, recordsIn, Within}
-use Rattle.history.specs.Past.{Past}
+use Rattle.table.specs.Past.{Past}
 use Rattle.following.specs.Meeting.{leaderAt, Met}
 
 -- The join of age a is taken into the reason.

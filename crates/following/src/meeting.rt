@@ -5,7 +5,7 @@ ghost use mathlib.Core.Logic.{_≢_};
 ghost use Prim.Native.Nat.{ℕ, _≤_, _<_};
 ghost use lib.ListN.{length};
 ghost use Rattle.table.specs.Map.{whenOf};
-ghost use Rattle.history.specs.Past.{ageAfter};
+ghost use Rattle.table.specs.Past.{ageAfter};
 ghost use Rattle.following.specs.Meeting.{leaderAt, Forested, Met};
 use meaning::Tag;
 

@@ -2,12 +2,11 @@
 -- Assumes nothing.
 use Prim.Native.Nat.{ℕ, zero, suc, _+_, _≤_}
 use native.Mathlib.Omega.{arith}
-use mathlib.Core.Path.{_≡_, refl, sym, _∙_}
+use mathlib.Core.Path.{_≡_, refl}
 use mathlib.Core.Bool.{Bool, true, false, cond}
 use mathlib.Core.List.{List, []}
 use lib.Dec.{eqb, leb}
 use lib.ListN.{length}
-use Rattle.meaning.specs.Following.{eq, app}
 use Rattle.job.specs.Items.{Item, noted, ask, explain, Reading, refused, accepted}
 use Rattle.job.specs.Reading.{Kind, first, record-eq, record-app, question-ask, question-explain, last, unknown, Field, bad, header, item, end, known, numberAt, bodyLength, bodyAt, orElse, ofKind, fieldAt, kindAt, byteAt, checked, counted, numbered, with, behind, onward, readFrom, reading}
 

@@ -14,8 +14,9 @@ use Rattle.job.specs.Items.{Item, ask, Reading, refused, accepted, recordsOf, n
 use Rattle.records.specs.declared.Record.{Record}
 use Rattle.records.specs.Table.{blank, Blanked}
 use Rattle.report.specs.Report.{numbers, field, led, because, apart, Totalled, total, Sound, totals, passed, answered}
-use Rattle.parts.specs.Clear.{Cleared}
-use Rattle.haltzurme.specs.Run.{Lent, Ran, long, narrow, unread, cramped, done}
+use Rattle.lent.specs.Clear.{Cleared}
+use Rattle.lent.specs.Lent.{Lent}
+use Rattle.running.specs.Run.{Ran, long, narrow, unread, cramped, done}
 use Rattle.haltzurme.specs.Alike.{Alike, same, reasoned, OneRun, equal, chosen}
 use Rattle.haltzurme.specs.Alike as alike
 

@@ -1,23 +1,22 @@
 -- Every report that the run writes passes the recheck, and two outcomes that meet the recheck's promise on the same lent things are one.
 -- The run leaves a sound report, a sound report has no fault, and the first fault of a report is one.
 -- Assumes nothing.
-use Prim.Native.Nat.{ℕ, _≤_, _<_}
+use Prim.Native.Nat.{ℕ}
 use native.Mathlib.Omega.{arith}
-use mathlib.Core.Path.{_≡_, refl, sym, _∙_, ap, ap₂}
-use mathlib.Core.Logic.{_⊎_, inl, inr}
-use mathlib.Core.List.{List, [], _∷_, _++_}
-use lib.ListN.{length, take, drop}
+use mathlib.Core.Path.{_≡_, refl}
+use mathlib.Core.List.{List, [], _∷_}
+use lib.ListN.{length, take}
 use lib.Seq.{take-at}
-use Rattle.meaning.specs.Following.{Rec}
-use Rattle.job.specs.Items.{Item, Reading, refused, accepted, recordsOf, neededRoom}
+use Rattle.job.specs.Items.{Item, Reading, refused, accepted, recordsOf}
 use Rattle.job.specs.Reading.{reading}
 use Rattle.records.specs.declared.Record.{Record}
 use Rattle.report.specs.Report.{Sound}
 use Rattle.report.specs.Fault.{FaultAt}
 use Rattle.report.proofs.Fault.{sound-no-fault, one-fault}
-use Rattle.haltzurme.specs.Run.{Lent, Emptied, Ran}
-use Rattle.haltzurme.specs.Run as run
-use Rattle.haltzurme.specs.Recheck.{Rechecked, long, narrow, unread, unsound, sound}
+use Rattle.lent.specs.Lent.{Lent, Emptied}
+use Rattle.running.specs.Run.{Ran}
+use Rattle.running.specs.Run as run
+use Rattle.rechecking.specs.Recheck.{Rechecked, long, narrow, unread, unsound, sound}
 use Rattle.haltzurme.proofs.One.{blanked-one, cleared-one, lent-not, clash, refused-one, accepted-one}
 use Rattle.haltzurme.proofs.Numbers.{refused-number}
 

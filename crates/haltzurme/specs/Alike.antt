@@ -7,7 +7,7 @@ use mathlib.Core.List.{List, [], _∷_, _++_}
 use lib.ListN.{length, drop}
 use Rattle.meaning.specs.Following.{Rec}
 use Rattle.meaning.specs.Reasons.{Reason}
-use Rattle.job.specs.Items.{Item, noted, ask, explain}
+use Rattle.job.specs.Items.{Item, noted, explain}
 use Rattle.report.specs.Report.{numbers, field}
 use Rattle.records.specs.declared.Record.{Record}
 

@@ -4,16 +4,16 @@ use Prim.Native.Nat.{ℕ, suc, _+_, _*_, _/_, _%_, _≤_, _<_}
 use native.Mathlib.Omega.{arith}
 use native.Mathlib.Numerals.{add-one}
 use mathlib.Core.Path.{_≡_, refl, sym, ap, _∙_, fun-ext}
-use mathlib.Core.Logic.{_≢_, inl, inr}
+use mathlib.Core.Logic.{_≢_, _⊎_, inl, inr}
 use mathlib.Core.Bool.{Bool, true, false, cond, not}
 use mathlib.Core.List.{List, List·Memᴰ·eq-of-singleton}
 use lib.ListN.{length, set, length-set}
 use Rattle.meaning.specs.Joins.{put, equation}
 use Rattle.meaning.proofs.Log.{put-miss}
-use Rattle.table.specs.Map.{leftOf, rightOf, labelOf, useOf, moreOf, stateOf, chainOf, waitOf, bucketOf, Within}
-use Rattle.table.proofs.Frame.{seen-in, seen-out, within-trans, within-wider, within-set, gather-in}
+use Rattle.table.specs.Map.{leftOf, rightOf, labelOf, useOf, moreOf, stateOf, chainOf, waitOf, bucketOf, seen, Within}
+use Rattle.table.proofs.Frame.{seen-in, seen-out, within-trans, within-wider, within-set, gather-in, uses-least, uses-most, mores-least, mores-most}
 use Rattle.labels.proofs.Chain.{below}
-use Rattle.labels.proofs.Views.{lefts, rights}
+use Rattle.table.proofs.Kept.{lefts, rights}
 use Rattle.index.specs.declared.Front.{Front}
 use Rattle.index.specs.State.{eqnAt, keyAt, Filing, Used, Queued, Indexed}
 use Rattle.index.proofs.Filing.{more, uses-eq, uses-app}
@@ -37,38 +37,52 @@ pub record Stored (s : Bool) (x i p : ℕ) (w w′ : List ℕ) : Type 0 where
   pub other-use : useOf (not s) w′ ≡ useOf (not s) w
   pub other-more : moreOf (not s) w′ ≡ moreOf (not s) w
 
-module _ (w : List ℕ) (long : 32768 ≤ length w) (x i p : ℕ) (small : x < 1000) (low : i < 4000) where
-  pub stored : (s : Bool) (w′ : List ℕ) → w′ ≡ set (set w (cond s 22003 17003 + i) p) (cond s 31764 30764 + x) (i + 1) → Stored s x i p w w′
-  stored false w′ e = rw (e, add-one) (record {
-    frame = within-trans (within-set 17003 32768 w (17003 + i) p (omega arith) (omega arith)) (within-set 17003 32768 w₁ (30764 + x) (suc i) (omega arith) (omega arith));
-    label = seen-out 21003 1000 (λ x. x) w₁ (30764 + x) (suc i) (inr (omega arith)) ∙ seen-out 21003 1000 (λ x. x) w (17003 + i) p (inl (omega arith));
-    state = seen-out 26003 4000 (λ x. 0) w₁ (30764 + x) (suc i) (inr (omega arith)) ∙ seen-out 26003 4000 (λ x. 0) w (17003 + i) p (inl (omega arith));
-    bucket = seen-out 30003 761 (λ x. 0) w₁ (30764 + x) (suc i) (inr (omega arith)) ∙ seen-out 30003 761 (λ x. 0) w (17003 + i) p (inl (omega arith));
-    use′ = seen-in 30764 1000 (λ x. 0) w₁ x (suc i) small (omega (arith, length-set w (17003 + i) p)) ∙ ap (put x (suc i)) (seen-out 30764 1000 (λ x. 0) w (17003 + i) p (inl (omega arith)));
-    more′ = seen-out 17003 4000 (λ x. 0) w₁ (30764 + x) (suc i) (inr (omega arith)) ∙ seen-in 17003 4000 (λ x. 0) w i p low (omega arith);
-    other-use = seen-out 31764 1000 (λ x. 0) w₁ (30764 + x) (suc i) (inl (omega arith)) ∙ seen-out 31764 1000 (λ x. 0) w (17003 + i) p (inl (omega arith));
-    other-more = seen-out 22003 4000 (λ x. 0) w₁ (30764 + x) (suc i) (inr (omega arith)) ∙ seen-out 22003 4000 (λ x. 0) w (17003 + i) p (inl (omega arith));
-  })
-    where
-      w₁ : List ℕ
-      w₁ = set w (17003 + i) p
-  stored true w′ e = rw (e, add-one) (record {
-    frame = within-trans (within-set 17003 32768 w (22003 + i) p (omega arith) (omega arith)) (within-set 17003 32768 w₁ (31764 + x) (suc i) (omega arith) (omega arith));
-    label = seen-out 21003 1000 (λ x. x) w₁ (31764 + x) (suc i) (inr (omega arith)) ∙ seen-out 21003 1000 (λ x. x) w (22003 + i) p (inr (omega arith));
-    state = seen-out 26003 4000 (λ x. 0) w₁ (31764 + x) (suc i) (inr (omega arith)) ∙ seen-out 26003 4000 (λ x. 0) w (22003 + i) p (inl (omega arith));
-    bucket = seen-out 30003 761 (λ x. 0) w₁ (31764 + x) (suc i) (inr (omega arith)) ∙ seen-out 30003 761 (λ x. 0) w (22003 + i) p (inl (omega arith));
-    use′ = seen-in 31764 1000 (λ x. 0) w₁ x (suc i) small (omega (arith, length-set w (22003 + i) p)) ∙ ap (put x (suc i)) (seen-out 31764 1000 (λ x. 0) w (22003 + i) p (inl (omega arith)));
-    more′ = seen-out 22003 4000 (λ x. 0) w₁ (31764 + x) (suc i) (inr (omega arith)) ∙ seen-in 22003 4000 (λ x. 0) w i p low (omega arith);
-    other-use = seen-out 30764 1000 (λ x. 0) w₁ (31764 + x) (suc i) (inr (omega arith)) ∙ seen-out 30764 1000 (λ x. 0) w (22003 + i) p (inl (omega arith));
-    other-more = seen-out 17003 4000 (λ x. 0) w₁ (31764 + x) (suc i) (inr (omega arith)) ∙ seen-out 17003 4000 (λ x. 0) w (22003 + i) p (inr (omega arith));
-  })
-    where
-      w₁ : List ℕ
-      w₁ = set w (22003 + i) p
+-- What the two stores lie beside: the labels, the lists of the other argument, and all that begins behind the one and ends before the other.
+beside-labels : (s : Bool) (i : ℕ) → i < 4000 → (cond s 22003 17003 + i < 21003) ⊎ (22003 ≤ cond s 22003 17003 + i)
+beside-labels true i l = inr (omega arith)
+beside-labels false i l = inl (omega arith)
+
+beside-mores : (s : Bool) (i : ℕ) → i < 4000 → (cond s 22003 17003 + i < cond (not s) 22003 17003) ⊎ (cond (not s) 22003 17003 + 4000 ≤ cond s 22003 17003 + i)
+beside-mores true i l = inr (omega arith)
+beside-mores false i l = inl (omega arith)
+
+beside-uses : (s : Bool) (x : ℕ) → x < 1000 → (cond s 31764 30764 + x < cond (not s) 31764 30764) ⊎ (cond (not s) 31764 30764 + 1000 ≤ cond s 31764 30764 + x)
+beside-uses true x l = inr (omega arith)
+beside-uses false x l = inl (omega arith)
+
+module _ (w : List ℕ) (long : 32768 ≤ length w) (x i p : ℕ) (small : x < 1000) (low : i < 4000) (s : Bool) where
+  abbrev more-at : ℕ
+  more-at = cond s 22003 17003
+
+  abbrev use-at : ℕ
+  use-at = cond s 31764 30764
+
+  abbrev w₁ : List ℕ
+  w₁ = set w (more-at + i) p
+
+  aside : (at size : ℕ) (past : ℕ → ℕ) → (more-at + i < at) ⊎ (at + size ≤ more-at + i) → (use-at + x < at) ⊎ (at + size ≤ use-at + x) → seen at size past (set w₁ (use-at + x) (suc i)) ≡ seen at size past w
+  aside at size past h k = seen-out at size past w₁ (use-at + x) (suc i) k ∙ seen-out at size past w (more-at + i) p h
+
+  pub stored : (w′ : List ℕ) → w′ ≡ set (set w (more-at + i) p) (use-at + x) (i + 1) → Stored s x i p w w′
+  stored w′ e =
+      let m₀ : 17003 ≤ more-at = mores-least s in
+      let m₁ : more-at ≤ 22003 = mores-most s in
+      let u₀ : 30764 ≤ use-at = uses-least s in
+      let u₁ : use-at ≤ 31764 = uses-most s in
+      rw (e, add-one) (record {
+        frame = within-trans (within-set 17003 32768 w (more-at + i) p (omega arith) (omega arith)) (within-set 17003 32768 w₁ (use-at + x) (suc i) (omega arith) (omega arith));
+        label = aside 21003 1000 (λ x. x) (beside-labels s i low) (inr (omega arith));
+        state = aside 26003 4000 (λ x. 0) (inl (omega arith)) (inr (omega arith));
+        bucket = aside 30003 761 (λ x. 0) (inl (omega arith)) (inr (omega arith));
+        use′ = seen-in use-at 1000 (λ x. 0) w₁ x (suc i) small (omega (arith, length-set w (more-at + i) p)) ∙ ap (put x (suc i)) (seen-out use-at 1000 (λ x. 0) w (more-at + i) p (inl (omega arith)));
+        more′ = seen-out more-at 4000 (λ x. 0) w₁ (use-at + x) (suc i) (inr (omega arith)) ∙ seen-in more-at 4000 (λ x. 0) w i p low (omega arith);
+        other-use = aside (cond (not s) 31764 30764) 1000 (λ x. 0) (inl (omega (arith, uses-least (not s)))) (beside-uses s x small);
+        other-more = aside (cond (not s) 22003 17003) 4000 (λ x. 0) (beside-mores s i low) (inr (omega (arith, mores-most (not s))));
+      })
 
   -- The same, of the tag and the link as they were found.
-  pub stored-as : (s : Bool) (w′ : List ℕ) (a q : ℕ) → a ≡ x → q ≡ p → w′ ≡ set (set w (cond s 22003 17003 + i) q) (cond s 31764 30764 + a) (i + 1) → Stored s x i p w w′
-  stored-as s w′ a q ea eq e = stored s w′ (rw (eq, ea) at e)
+  pub stored-as : (w′ : List ℕ) (a q : ℕ) → a ≡ x → q ≡ p → w′ ≡ set (set w (more-at + i) q) (use-at + a) (i + 1) → Stored s x i p w w′
+  stored-as w′ a q ea eq e = stored w′ (rw (eq, ea) at e)
 
 -- The place of a record that comes in.
 pub next-low : {N len i : ℕ} {w : List ℕ} {n : ℕ} → Between N len i w n → i < len → i < 4000

@@ -25,7 +25,8 @@ use Rattle.table.specs.Map.{leftOf, rightOf, resultOf, parentOf, ageOf, whenOf,
 use Rattle.table.proofs.Frame.{seen-at, seen-past, seen-within, within-trans, within-wider, length-gather, gather-in, in-gather}
 use Rattle.labels.specs.Parts.{Fills, CountsUp, Fresh}
 use Rattle.labels.proofs.Rows.{at-rec, eq-parts, app-parts}
-use Rattle.labels.proofs.Views.{loaded-same, records-same, fresh-total, lent-within, lent-at, seen-zero}
+use Rattle.table.proofs.Kept.{loaded-same, records-same}
+use Rattle.labels.proofs.Views.{fresh-total, lent-within, lent-at, seen-zero}
 use Rattle.index.specs.declared.Front.{Front}
 use Rattle.index.specs.State.{eqnAt, resAt, foundIn}
 use Rattle.index.proofs.Filing.{none, all-known, uses-none}
@@ -33,7 +34,7 @@ use Rattle.index.proofs.Waiting.{queue-none, queue-empty}
 use Rattle.joining.specs.State.{upTo, Logged, Marked, leadOf, Standing}
 use Rattle.joining.proofs.Joining.{leaders}
 use Rattle.settling.specs.State.{Open}
-use Rattle.history.specs.Past.{ageAfter, leaderAfter}
+use Rattle.table.specs.Past.{ageAfter, leaderAfter}
 use Rattle.history.specs.Closing.{Closing}
 use Rattle.history.specs.State.{front, Between, Admitted, Begun, Unlinked}
 

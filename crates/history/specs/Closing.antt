@@ -5,7 +5,7 @@ use mathlib.Core.List.{List}
 use Rattle.meaning.specs.Following.{UpTo}
 use Rattle.meaning.specs.Totals.{Classes, Idles}
 use Rattle.table.specs.Map.{recordsIn, Within}
-use Rattle.history.specs.Past.{Past}
+use Rattle.table.specs.Past.{Past}
 
 -- From w to w′ the records 1 to len of N tags were closed: what was written lies behind the columns, the joins are kept for every moment, and the numbers of classes
 -- and of idle records over all records are as document 01 defines them.

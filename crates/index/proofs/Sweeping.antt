@@ -9,7 +9,7 @@ use mathlib.Core.List.{List}
 use Rattle.table.specs.Map.{leftOf, rightOf, labelOf, useOf, moreOf, chainOf, Within}
 use Rattle.table.proofs.Frame.{within-refl, within-trans}
 use Rattle.labels.proofs.Chain.{by-same}
-use Rattle.labels.proofs.Views.{lefts, rights, results}
+use Rattle.table.proofs.Kept.{lefts, rights, results}
 use Rattle.index.specs.declared.Front.{Front}
 use Rattle.index.specs.Filing.{On, further}
 use Rattle.index.specs.State.{eqnAt, Filing, Queued, Indexed, Touched}

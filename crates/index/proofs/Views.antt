@@ -15,7 +15,7 @@ use Rattle.table.proofs.Frame.{seen-in, seen-out, seen-within, within-wider, wi
 use Rattle.labels.proofs.Chain.{by-same}
 use Rattle.labels.specs.Parts.{Readable}
 use Rattle.labels.proofs.Rows.{left-small, right-small}
-use Rattle.labels.proofs.Views.{lefts, rights, results, loaded-same}
+use Rattle.table.proofs.Kept.{lefts, rights, results, loaded-same}
 use Rattle.index.specs.declared.Front.{Front}
 use Rattle.index.specs.Filing.{Filed}
 use Rattle.index.specs.Waiting.{Queue}

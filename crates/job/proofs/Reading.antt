@@ -1,13 +1,13 @@
 -- Laws of reading: what a field that was not refused has passed, and where it ends.
 -- Each follows the definition's own order; the tests of a field that is not bad all held.
 -- Assumes nothing.
-use Prim.Native.Nat.{ℕ, zero, suc, _+_, _-_, _≤_, _<_}
+use Prim.Native.Nat.{ℕ, zero, suc, _+_, _≤_, _<_}
 use native.Mathlib.Omega.{arith}
 use mathlib.Core.Path.{_≡_, refl, sym, _∙_, ap, subst}
 use mathlib.Core.Bool.{Bool, true, false, cond, _&&_}
 use mathlib.Core.List.{List, []}
-use borrow.Author.Tests.{ltb-true, leb-true, lt-leb, ne-eqb}
-use lib.Dec.{eqb, ltb, leb}
+use borrow.Author.Tests.{leb-true, lt-leb, ne-eqb}
+use lib.Dec.{eqb, leb}
 use lib.ListN.{length}
 use Rattle.meaning.specs.Following.{Rec, eq, app}
 use Rattle.job.specs.Items.{Item, noted, ask, explain, Reading, refused, accepted}

@@ -11,7 +11,7 @@ use Rattle.meaning.specs.Joins.{put}
 use Rattle.meaning.proofs.Log.{put-hit, put-miss}
 use Rattle.table.specs.Map.{parentOf, ageOf, firstOf, secondOf, whenOf, joinBy, joinAt, Within}
 use Rattle.table.proofs.Frame.{seen-in, seen-out, seen-within, within-trans, within-wider, within-set}
-use Rattle.labels.proofs.Views.{lefts, rights, results}
+use Rattle.table.proofs.Kept.{lefts, rights, results}
 use Rattle.joining.specs.State.{noted}
 
 -- The two for the link, then the three for the log.

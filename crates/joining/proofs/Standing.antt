@@ -8,7 +8,7 @@ use mathlib.Core.List.{List}
 use Rattle.table.specs.Map.{leftOf, rightOf, parentOf, ageOf, firstOf, secondOf, whenOf, labelOf, joinAt, Within}
 use Rattle.table.proofs.Frame.{seen-within, within-wider}
 use Rattle.labels.proofs.Rows.{split-key}
-use Rattle.labels.proofs.Views.{lefts, rights, results, loaded-same}
+use Rattle.table.proofs.Kept.{lefts, rights, results, loaded-same}
 use Rattle.index.specs.declared.Front.{Front}
 use Rattle.index.specs.State.{keyAt}
 use Rattle.index.proofs.Views.{row-right}

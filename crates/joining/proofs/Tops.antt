@@ -17,7 +17,7 @@ use Rattle.meaning.specs.Forest.{rootIn, root}
 use Rattle.meaning.proofs.Count.{count-low}
 use Rattle.meaning.proofs.Log.{put-hit, put-miss}
 use Rattle.meaning.proofs.Relabel.{into-hit, into-miss, getD-any}
-use Rattle.table.specs.Map.{parentOf, labelOf, Within}
+use Rattle.table.specs.Map.{labelOf, Within}
 use Rattle.table.proofs.Frame.{seen-at, seen-past, within-wider}
 use Rattle.labels.specs.Parts.{Relabelled}
 use Rattle.labels.proofs.Views.{part-within, part-at}

@@ -17,7 +17,7 @@ use Rattle.meaning.proofs.Relabel.{into-hit, into-miss, relabel-classes, Ends}
 use Rattle.table.specs.Map.{leftOf, rightOf, parentOf, ageOf, whenOf, labelOf, useOf, moreOf, stateOf, chainOf, waitOf, bucketOf, joinBy, joinAt, recordsIn, Within}
 use Rattle.table.proofs.Frame.{seen-within, within-trans, within-wider}
 use Rattle.labels.specs.Parts.{Relabelled}
-use Rattle.labels.proofs.Views.{lefts, rights, results, loaded-same}
+use Rattle.table.proofs.Kept.{lefts, rights, results, loaded-same}
 use Rattle.index.specs.declared.Front.{Front}
 use Rattle.index.specs.Filing.{Filed}
 use Rattle.index.specs.Waiting.{Queue}

@@ -15,7 +15,7 @@ use lib.Seq.{getD-take, getD-drop, length-take-le, drop-at, drop-drop}
 use Rattle.meaning.specs.Labels.{Labels, into, classes}
 use Rattle.meaning.specs.Joins.{put}
 use Rattle.meaning.proofs.Relabel.{into-miss, getD-any, start-classes}
-use Rattle.table.specs.Map.{leftOf, rightOf, resultOf, labelOf, savedOf, nextOf, headOf, seen, recordsIn, Loaded, Within}
+use Rattle.table.specs.Map.{labelOf, savedOf, nextOf, headOf, seen, Within}
 use Rattle.table.proofs.Frame.{seen-at, seen-past, seen-in, seen-out, seen-within, within-trans, within-wider, within-set}
 use Rattle.labels.specs.Chain.{seekTo}
 use Rattle.labels.specs.Parts.{Own, reach, width, nextTo, nextIn, headIn, Fills, CountsUp, Raised, Lowered, Relabelled, Fresh, Preserved, Restored, Cleared}
@@ -171,23 +171,6 @@ module _ (w w′ v : List ℕ) (long : 32768 ≤ length w) (s : length v ≡ len
           let c : 21003 + (10093 + x) ≡ 31096 + x = omega arith in
           seen-at 21003 1000 (λ x. x) w′ x l ∙ new x (omega arith) ∙ r .under x (rw whole (omega arith)) ∙ old (10093 + x) (omega arith) ∙ ap (λ (n : ℕ). getD w n 0) c ∙ sym (seen-at 31096 1000 (λ x. x) w x l)
       go x (no l) = seen-past 21003 1000 (λ x. x) w′ x (omega arith) ∙ sym (seen-past 31096 1000 (λ x. x) w x (omega arith))
-
--- The columns are kept.
-module _ {end : ℕ} {w w′ : List ℕ} (f : Within 12003 end w w′) where
-  pub lefts : leftOf w′ ≡ leftOf w
-  lefts = seen-within 0 4001 (λ x. 0) f (inl (omega arith))
-
-  pub rights : rightOf w′ ≡ rightOf w
-  rights = seen-within 4001 4001 (λ x. 0) f (inl (omega arith))
-
-  pub results : resultOf w′ ≡ resultOf w
-  results = seen-within 8002 4001 (λ x. 0) f (inl (omega arith))
-
-  pub loaded-same : {N len : ℕ} → Loaded N len w → Loaded N len w′
-  loaded-same h = record { long = omega (arith, h .long, f .size); some = h .some; few = h .few; most = h .most; small = rw (lefts, rights, results) (h .small) }
-
-  pub records-same : (len : ℕ) → recordsIn len w′ ≡ recordsIn len w
-  records-same len = rw (lefts, rights, results)
 
 -- Buckets and links of a table with few places or many.
 pub bucket-low : (few : Bool) (x : ℕ) → x % width few < width few

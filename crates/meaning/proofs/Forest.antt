@@ -151,9 +151,6 @@ history-link e n p g top H room j lo hi less free free′ h = record {
   then = λ a l. go a l (decLe a n);
 }
   where
-    own : (x : ℕ) → top ≤ g x → root p g n x ≡ x
-    own x l = root-stop p g top n (H .links) n (omega arith) (omega arith) x (omega arith)
-
     old : (a : ℕ) → a < n → e a ≡ put n j e a
     old a l = sym (put-miss n j e a (omega arith))
 
@@ -162,8 +159,8 @@ history-link e n p g top H room j lo hi less free free′ h = record {
     go a l (no k) =
         let q : a ≡ suc n = omega arith in
         rw q (agree-same (λ b i. refl) (link-after p g top n (H .links) room lo hi less free free′)
-        (relabel-agree (put n j e) n (root p g n) (agree-same old (λ x. refl) (H .then n (omega arith))) lo hi
-        (root-labels p g top n (H .links) n (omega arith) (omega arith)) (own lo free) (own hi free′) less (rw (put-hit n j e) h)))
+        (relabel-agree (put n j e) n (root p g n) (agree-same old (λ x. refl) (H .then n (omega arith))) lo hi less
+        (rw (put-hit n j e) h)))
 
 -- Where join b is the first to bring s and t together, it is crossed, one way or the other.
 pub newest : (e : ℕ → Join) (n : ℕ) (p g : ℕ → ℕ) (top : ℕ) → History e n p g top → (b : ℕ) → b < n → (s t : ℕ) → root p g (suc b) s ≡ root p g (suc b) t → root p g b s ≢ root p g b t

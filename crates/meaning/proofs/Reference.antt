@@ -105,7 +105,7 @@ module _ (N : ℕ) (rs : List Rec) (small : (i : ℕ) → i < length rs → Smal
     n = suc (s .n);
     f = λ x. into lo hi (s .f x);
     labels = relabel-labels (s .f) lo hi (s .labels) own own′ less;
-    agree = relabel-agree e′ (s .n) (s .f) (agree-same old (λ x. refl) (s .agree)) lo hi (s .labels) own own′ less (rw new h);
+    agree = relabel-agree e′ (s .n) (s .f) (agree-same old (λ x. refl) (s .agree)) lo hi less (rw new h);
     total = omega (arith, relabel-classes (s .f) lo hi (s .labels) own own′ less N small, s .total);
     sound = λ a l o. sound a l (ℕ-discrete a (s .n));
     within = λ k i. elim (List·Memᴰ·append-cases (numbersOf (e′ (s .n) .why)) i) [ inl q ↦ w k (rw new at q) | inr q ↦ s .within k (rw (used-same (s .e) e′ all (s .n) old) q) ];

@@ -70,7 +70,7 @@ abbrev pub Ends : (ℕ → ℕ) → ℕ → ℕ → Join → Type 0
 Ends f lo hi j = ((f (j .u) ≡ lo) × (f (j .v) ≡ hi)) ⊎ ((f (j .u) ≡ hi) × (f (j .v) ≡ lo))
 
 -- The labels follow the log through a join of the two classes.
-module _ (e : ℕ → Join) (n : ℕ) (f : ℕ → ℕ) (A : Agree e n f) (lo hi : ℕ) (L : Labels f) (own : f lo ≡ lo) (own′ : f hi ≡ hi) (less : lo < hi) where
+module _ (e : ℕ → Join) (n : ℕ) (f : ℕ → ℕ) (A : Agree e n f) (lo hi : ℕ) (less : lo < hi) where
   pub relabel-agree : Ends f lo hi (e n) → Agree e (suc n) (λ x. into lo hi (f x))
   relabel-agree h = record { labels = λ x y. labels x y (bridge h); joins = λ x y p. joins x y (into-same lo hi (f x) (f y) p) h }
     where

@@ -7,7 +7,7 @@ use lib.ListN.{length}
 use Rattle.job.specs.Items.{Item}
 use Rattle.job.specs.Standing.{Tagged}
 use Rattle.table.specs.Map.{recordsIn, Within}
-use Rattle.history.specs.Past.{Past}
+use Rattle.table.specs.Past.{Past}
 use Rattle.report.specs.Report.{Answers, laid}
 use Rattle.report.proofs.Fits.{roomFor}
 

@@ -1,16 +1,16 @@
 // One question answered, by the joins that were made before it, as a field of the report. Document 01, "The job and the report". Rests on
-// reasons and report.
+// reasons, report and reason_field.
 ghost use Rattle.job.specs.Items.{ask};
 ghost use Rattle.job.specs.Items.{explain as explains};
 ghost use Rattle.one_answer.specs.Facing.{Facing, Answered};
 use following::meeting::age_after;
 use following::meeting::leader;
 use meaning::Tag;
+use reason_field::write_reason;
 use reasons::Answer;
 use reasons::explain;
 use report::write_apart;
 use report::write_led;
-use report::write_reason;
 
 // What is asked about: N tags, so many records, and the joins they led to.
 pub struct Closed {

@@ -18,7 +18,8 @@ use Rattle.labels.specs.Chain.{seekTo, hits, look}
 use Rattle.labels.specs.Parts.{Cleared, reach, width, nextTo, nextIn, headIn}
 use Rattle.labels.proofs.Chain.{chains-none, filled-none, chains-up, below, look-hit, filled-pass, filled-skip, chains-insert, filled-insert}
 use Rattle.labels.proofs.Rows.{split-key}
-use Rattle.labels.proofs.Views.{bucket-low, width-most, head-is, cut-falls, seek-cut, results, put-frame, put-heads, put-nexts}
+use Rattle.table.proofs.Kept.{results}
+use Rattle.labels.proofs.Views.{bucket-low, width-most, head-is, cut-falls, seek-cut, put-frame, put-heads, put-nexts}
 use Rattle.passes.specs.declared.Task.{Task}
 use Rattle.passes.specs.State.{State, Valid, Joining, Joined, Meeting, Met, Stepping, Stepped, Unifying, Seeking, Finding, Passed, eqnOf, keyOf, resOf, bucketIn, linkIn}
 use Rattle.passes.proofs.Rows.{row-left, row-right, row-result, row-in, row-at}

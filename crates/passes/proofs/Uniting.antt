@@ -12,7 +12,7 @@ use Rattle.meaning.proofs.Relabel.{into-hit, into-miss, relabel-labels, relabel
 use Rattle.table.specs.Map.{listOf, labelOf, recordsIn, listIn, Within}
 use Rattle.table.proofs.Frame.{seen-within, within-wider}
 use Rattle.labels.specs.Parts.{reach, width, Relabelled}
-use Rattle.labels.proofs.Views.{lefts, rights, results}
+use Rattle.table.proofs.Kept.{lefts, rights, results}
 use Rattle.passes.specs.declared.Task.{Task}
 use Rattle.passes.specs.State.{State, Joining, Joined}
 use Rattle.passes.proofs.Views.{listed-same}

@@ -8,7 +8,7 @@ use mathlib.Core.Bool.{true}
 use mathlib.Core.List.{List}
 use Rattle.table.specs.Map.{leftOf, rightOf, listOf, labelOf, Within}
 use Rattle.table.proofs.Frame.{seen-within, within-wider}
-use Rattle.labels.proofs.Views.{lefts, rights, results, loaded-same}
+use Rattle.table.proofs.Kept.{lefts, rights, results, loaded-same}
 use Rattle.passes.specs.Listed.{Listed}
 use Rattle.passes.specs.declared.Task.{Task}
 use Rattle.passes.specs.State.{State, eqnOf, keyOf, resOf}

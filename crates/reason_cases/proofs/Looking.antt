@@ -4,20 +4,23 @@ use Prim.Native.Nat.{ℕ, suc, _+_, _-_, _*_, _≤_, _<_}
 use native.Mathlib.Omega.{arith}
 use native.Mathlib.Decide.{ℕ-discrete}
 use mathlib.Core.Path.{_≡_, _∙_, ap}
-use mathlib.Core.Logic.{_≢_, _⊎_, inl}
+use mathlib.Core.Logic.{_≢_, _⊎_, inl, inr}
 use mathlib.Core.List.{List}
 use lib.ListN.{length, getD, set, length-set}
 use lib.Seq.{getD-set-same, getD-set-other}
+use Rattle.meaning.specs.Following.{Rec, eq, app}
+use Rattle.meaning.proofs.Reference.{Small}
 use Rattle.meaning.proofs.Rising.{above-all}
-use Rattle.table.specs.Map.{listOf, listIn, Loaded, Within}
+use Rattle.table.specs.Map.{listOf, listIn, recAt, Loaded, Within}
 use Rattle.table.proofs.Frame.{seen-at, seen-within, gather-in, length-gather, within-refl, within-trans, within-wider, within-set}
-use Rattle.history.specs.Past.{Past}
+use Rattle.table.specs.Past.{Past}
 use Rattle.closure.specs.Closing.{Listed}
 use Rattle.following.proofs.Kept.{kept-loaded, kept-past}
 use Rattle.listing.proofs.Gathering.{list-hit, list-miss}
 use Rattle.reasons.specs.Explaining.{Explained}
 use Rattle.reasons.specs.declared.Answer.the-variants.{Because}
-use Rattle.reason_cases.specs.Front.{Fronted}
+use Rattle.table.proofs.Columns.{stored, loaded-none, loaded-equation, loaded-application}
+use Rattle.reason_cases.specs.Desk.{Resulting}
 
 -- The closure's scratch is no part of the list.
 wider : {w w′ : List ℕ} → Within 21003 30096 w w′ → Within 17003 30096 w w′
@@ -59,7 +62,11 @@ module _ {N len n : ℕ} {w : List ℕ} (h : Listed N len n w) (i : ℕ) (l : i 
       go j o (yes z) = rw z (getD-set-same w₂ (17003 + i) one 0 here ∙ e ∙ seen-at 17003 4000 (λ x. 0) w i (omega (arith, h .short)))
       go j o (no z) = getD-set-other w₂ (17003 + i) j one 0 z ∙ f .same j o ∙ ap (λ (v : List ℕ). getD v j 0) q ∙ getD-set-other w (17003 + i) j last 0 z
 
--- The records up to one of them.
+-- The records up to one of them: from w to w′ only the list changed, and its first n places name records 1 to n.
+pub record Fronted (w w′ : List ℕ) (n : ℕ) : Type 0 where
+  pub kept : Within 17003 21003 w w′
+  pub named : (i : ℕ) → i < n → listOf w′ i ≡ suc i
+
 pub fronted-start : (w : List ℕ) → Fronted w w 0
 fronted-start w = record { kept = within-refl w; named = λ i l. absurd (omega arith) }
 
@@ -90,10 +97,18 @@ shown-within f g = within-trans (wider f) (wider g)
 pub shown-further : {w w₁ w₂ w₃ : List ℕ} → Within 21003 30096 w w₁ → Within 21003 30096 w₁ w₂ → Within 17003 30096 w₂ w₃ → Within 17003 30096 w w₃
 shown-further f g k = within-trans (shown-within f g) k
 
+-- The second look knows all the tags that there may be.
+small-wide : {N : ℕ} → N ≤ 1000 → (r : Rec) → Small N r → Small 1000 r
+small-wide l (eq a b) h = (omega (arith, h .0), omega (arith, h .1))
+small-wide l (app a b c) h = (omega (arith, h .0), omega (arith, h .1), omega (arith, h .2))
+
+pub loaded-wide : {N len : ℕ} {w : List ℕ} → Loaded N len w → Loaded 1000 len w
+loaded-wide {w = w} h = record { long = h .long; some = omega arith; few = omega arith; most = h .most; small = λ k l. small-wide (h .few) (recAt w (suc k)) (h .small k l) }
+
 -- A reason names records.
-pub explained-listed : {N len joins before s t c : ℕ} {w w′ : List ℕ} → before ≤ len → Explained N len joins before s t w w′ (Because c) → Listed N len c w′
+pub explained-listed : {N len joins before s t c : ℕ} {w w′ : List ℕ} → before ≤ len → Explained N len joins before s t w w′ (Because c) → Listed 1000 len c w′
 explained-listed {N} {c = c} {w′ = w′} l e = record {
-  loaded = e .past .loaded;
+  loaded = loaded-wide (e .past .loaded);
   short = let q : c ≤ 2 * (N - 1) = rw (length-gather (listOf w′) c) at (e .says .short) in omega (arith, e .past .loaded .few);
   named = λ i k. (above-all 0 (listIn c w′) (e .says .rising) (listOf w′ i) (gather-in (listOf w′) c i k), omega (arith, e .says .stand (listOf w′ i) (gather-in (listOf w′) c i k)));
 }
@@ -103,3 +118,8 @@ past-still f p = kept-past f p
 
 pub last-named : {N len n k : ℕ} {w : List ℕ} → Listed N len n w → n ≢ 0 → k ≡ listOf w (n - 1) → (1 ≤ k) × (k ≤ len)
 last-named {n = n} h d e = rw e (h .named (n - 1) (omega arith))
+
+-- One record more is loaded.
+pub one-more : {N len : ℕ} {w w′ : List ℕ} → Loaded N len w → len < 4000 → (a b c : ℕ) → a < N → b < N → Resulting N c → w′ ≡ stored w (len + 1) a b c → Loaded N (len + 1) w′
+one-more L room a b c x y (inl z) e = loaded-application L room a b c x y z e .0
+one-more L room a b c x y (inr z) e = loaded-equation L room a b x y (rw z at e) .0

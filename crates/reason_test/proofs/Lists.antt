@@ -23,10 +23,10 @@ use Rattle.table.proofs.Frame.{seen-in, seen-within, within-refl, within-trans,
 use Rattle.closure.specs.Closing.{Listed, Entailing}
 use Rattle.listing.specs.Listing.{waitingIn}
 use Rattle.trimming.specs.Trimming.{Followed, Pruned}
-use Rattle.reasons.specs.Rising.{Numbered, Sorted}
+use Rattle.rising.specs.Rising.{Numbered, Sorted}
 use Rattle.listing.proofs.Gathering.{list-hit, list-miss}
 use Rattle.following.proofs.Kept.{kept-records, kept-loaded, kept-past}
-use Rattle.report_read.proofs.Read.{is-not, is-so}
+use Rattle.meaning.proofs.Tests.{is-not, is-so}
 use Rattle.reason_test.specs.declared.Question.{Question}
 use Rattle.reason_test.specs.Posed.{Posed, Deciding}
 use Rattle.reason_test.specs.Lists.{Rising, Swap, Swapped, Arranged, Moved, Named, Serving, Entailed, NoneSpare, Sufficient}

@@ -6,7 +6,7 @@ use mathlib.Core.Logic.{_↔_}
 use mathlib.Core.Bool.{Bool, true}
 use mathlib.Core.List.{List}
 use Rattle.table.specs.Map.{Within}
-use Rattle.history.specs.Past.{Past}
+use Rattle.table.specs.Past.{Past}
 use Rattle.reason_test.specs.declared.Question.{Question}
 
 -- The table holds what the question is about: N tags, all records with their joins, and the records before it among them.

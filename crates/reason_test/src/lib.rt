@@ -1,5 +1,5 @@
 // Whether the numbers that stand in the table's list are a reason: they rise to the first k, they make s and t equal, and none of them can be
-// spared. Document 01, "Reasons". Rests on table, closure and reasons.
+// spared. Document 01, "Reasons". Rests on table, closure, trimming and rising.
 ghost use mathlib.Core.Path.{_≡_};
 ghost use mathlib.Core.Logic.{_↔_};
 ghost use mathlib.Core.Bool.{true};
@@ -72,7 +72,7 @@ fn tight(work: &mut [u16], count: usize, q: Question) -> bool
 {
     put_waiting(work, count);
     let kept = trimming::trim(work, q.size, q.len, count, q.s, q.t);
-    reasons::rising::put_rising(work, q.len, kept) == count
+    rising::put_rising(work, q.len, kept) == count
 }
 
 // Whether the list makes s and t equal, and none of its numbers can be spared.

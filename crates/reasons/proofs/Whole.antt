@@ -21,7 +21,7 @@ use Rattle.meaning.proofs.Reference.{Small}
 use Rattle.meaning.proofs.Exact.{reason-of, reason-same}
 use Rattle.table.specs.Map.{whenOf, firstOf, secondOf, listOf, listIn, recAt, recordsIn, joinAt, Loaded, Within}
 use Rattle.table.proofs.Frame.{length-gather, getD-gather, gather-in, within-refl, within-trans, within-wider}
-use Rattle.history.specs.Past.{Past, ageAfter}
+use Rattle.table.specs.Past.{Past, ageAfter}
 use Rattle.following.specs.Meeting.{Met}
 use Rattle.following.specs.Tracing.{marked, Holds, Together, Traced, Unmarked}
 use Rattle.following.proofs.Kept.{kept-records, kept-joins, kept-past, kept-loaded, kept-marks}
@@ -31,7 +31,7 @@ use Rattle.following.proofs.Crossing.{kept-leader, unmarked-supported}
 use Rattle.listing.specs.Listing.{waitingIn, Gathered}
 use Rattle.trimming.specs.Trimming.{Pruned, Followed}
 use Rattle.sparing.specs.Comparing.{Comparing}
-use Rattle.reasons.specs.Rising.{Numbered, Sorted}
+use Rattle.rising.specs.Rising.{Numbered, Sorted}
 use Rattle.reasons.specs.Explaining.{Question, Explained, Joining, Reasoned}
 use Rattle.reasons.specs.declared.Answer.the-variants.{Because, Apart}
 

@@ -1,11 +1,9 @@
 // Reasons: for two tags that are equal by the records before a question, a list of record numbers that is a reason. Document 01,
 // "Reasons". Rests on following, which marks the joins between the tags, on listing, which lists their records, on sparing, which takes
-// out the spare ones, and on table.
+// out the spare ones, on rising, which puts the others in order, and on table.
 ghost use Prim.Native.Nat.{ℕ, _≤_, _<_};
 ghost use Rattle.reasons.specs.Explaining.{Question, Explained, Joining, Reasoned};
 use meaning::Tag;
-
-pub mod rising;
 
 // What is said of two tags: so many numbers of the list are a reason for them, or their equality does not follow.
 pub enum Answer {

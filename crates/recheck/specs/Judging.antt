@@ -11,7 +11,7 @@ use Rattle.job.specs.Items.{Item, recordsOf}
 use Rattle.job.specs.Reading.{itemsIn}
 use Rattle.job.specs.Standing.{Job}
 use Rattle.table.specs.Map.{recordsIn, Within}
-use Rattle.history.specs.Past.{Past}
+use Rattle.table.specs.Past.{Past}
 use Rattle.report.specs.Report.{Sound}
 use Rattle.report.specs.Fault.{FaultAt}
 use Rattle.recheck.specs.declared.Judgement.{Judgement}

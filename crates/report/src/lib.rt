@@ -1,11 +1,10 @@
-// The report's fields, written here and nowhere else: on this side it is the writer that unwraps Tag and RecordNo. Document
-// 01, "The job and the report". Rests on meaning, job and table.
+// The report's fields, written here and nowhere else: on this side it is the writer that unwraps Tag. The numbers of a reason are
+// reason_field's. Document 01, "The job and the report". Rests on meaning and job.
 ghost use mathlib.Core.Path.{_≡_};
 ghost use mathlib.Core.List.{[], _∷_};
 ghost use Prim.Native.Nat.{ℕ, _+_, _*_, _≤_, _<_};
 ghost use lib.ListN.{length};
 ghost use Rattle.report.specs.Report.{two, numbers, field, front, laid};
-ghost use Rattle.table.specs.Map.{listOf, listIn};
 use meaning::Tag;
 
 // The kinds of the report's table: 83, 84, 85 and 8F.
@@ -18,7 +17,7 @@ pub const APART: u8 = 133;
 pub const TOTALS: u8 = 143;
 
 // A number as two bytes.
-fn put_number(room: &mut [u8], at: usize, n: u16)
+pub fn put_number(room: &mut [u8], at: usize, n: u16)
     requires { ⌜ at + 2 ≤ length (now room) ⌝ }
     ensures { λ _. ⌜ now (room .exit) ≡ laid at (two n) (now (room .entry)) ⌝ }
 {
@@ -27,7 +26,7 @@ fn put_number(room: &mut [u8], at: usize, n: u16)
 }
 
 // A field's kind and the length of its body.
-fn put_front(room: &mut [u8], at: usize, kind: u8, size: u16)
+pub fn put_front(room: &mut [u8], at: usize, kind: u8, size: u16)
     requires { ⌜ at + 3 ≤ length (now room) ⌝ }
     ensures { λ _. ⌜ now (room .exit) ≡ laid at (front kind size) (now (room .entry)) ⌝ }
 {
@@ -67,26 +66,4 @@ pub fn write_totals(room: &mut [u8], at: usize, classes: usize, idle: usize)
     ensures { λ _. ⌜ now (room .exit) ≡ laid at (field 143 (numbers (classes ∷ idle ∷ []))) (now (room .entry)) ⌝ }
 {
     put_pair(room, at, TOTALS, classes as u16, idle as u16);
-}
-
-// The record number at a place of the list goes to its place in a reason whose numbers begin at `at`.
-fn put_listed(room: &mut [u8], at: usize, work: &[u16], i: usize)
-    requires { ⌜ (32768 ≤ length (now work)) × (i < 4000) × (at + 2 * i + 2 ≤ length (now room)) ⌝ }
-    ensures { λ _. ⌜ now (room .exit) ≡ laid (at + 2 * i) (two (listOf (now (work .entry)) i)) (now (room .entry)) ⌝ }
-{
-    let r = table::listed(work, i);
-    put_number(room, at + 2 * i, r.0);
-}
-
-// The answer to an explain where the equality follows: the first numbers of the list.
-pub fn write_reason(room: &mut [u8], at: usize, work: &[u16], count: usize)
-    requires { ⌜ (32768 ≤ length (now work)) × (count ≤ 4000) × (at + 3 + 2 * count ≤ length (now room)) ⌝ }
-    ensures { λ _. ⌜ now (room .exit) ≡ laid at (field 132 (numbers (listIn count (now (work .entry))))) (now (room .entry)) ⌝ }
-{
-    put_front(room, at, BECAUSE, (2 * count) as u16);
-    let mut i = 0;
-    while i < count {
-        put_listed(room, at + 3, work, i);
-        i += 1;
-    }
 }

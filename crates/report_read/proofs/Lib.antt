@@ -1,4 +1,3 @@
 pub mod Read
-pub mod Listing
 pub mod Right
 pub mod Decided

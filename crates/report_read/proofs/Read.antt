@@ -4,10 +4,6 @@ use Prim.Native.Nat.{ℕ, suc, _+_, _-_, _≤_, _<_}
 use native.Mathlib.Omega.{arith}
 use native.Mathlib.Numerals.{add-one}
 use mathlib.Core.Path.{_≡_, refl, sym, _∙_, ap, subst}
-use mathlib.Core.Logic.{_↔_}
-use mathlib.Core.Bool.{Bool, true, false, cond}
-use lib.Dec.{eqb}
-use borrow.Author.Tests.{eq-eqb, eqb-true}
 use mathlib.Core.List.{List, [], _∷_, _++_, append-assoc}
 use lib.ListN.{length, take, drop, getD, length-append, length-drop, take-append-drop}
 use lib.Seq.{drop-cons, drop-drop, drop-append-seam, length-take-le}
@@ -129,14 +125,3 @@ module _ (report : List ℕ) (at : ℕ) where
       let body = take n (drop (at + 3) report) in
       let e : length body ≡ n = p .1 in
       subst (λ (m : ℕ). FrontAt report at (Field (getD report at 0) m)) e (whole body (holds-field report at body (omega arith) (rw e s) (p .0)))
-
--- One truth value is not both.
-pub true-or-false : {b : Bool} → b ≡ true → b ≡ false → ⊥
-true-or-false t f = let z : _≡_ {A = ℕ} 0 1 = cc in omega arith
-
--- A test that is false where a fact fails, and one that says the fact.
-pub is-not : {A : Type 0} → (A → ⊥) → (false ≡ true) ↔ A
-is-not f = (λ e. let z : _≡_ {A = ℕ} 0 1 = ap (λ (b : Bool). cond b 1 0) e in absurd (omega arith), λ a. absurd (f a))
-
-pub is-so : {A : Type 0} (m n : ℕ) → (m ≡ n → A) → (A → m ≡ n) → (eqb m n ≡ true) ↔ A
-is-so m n f g = (λ e. f (eqb-true m n e), λ a. eq-eqb m n (g a))

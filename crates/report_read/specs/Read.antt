@@ -3,9 +3,8 @@
 use Prim.Native.Nat.{ℕ, _+_}
 use mathlib.Core.Path.{_≡_}
 use mathlib.Core.List.{List, _++_}
-use lib.ListN.{length, drop, set}
-use Rattle.table.specs.Map.{listIn, Within}
-use Rattle.report.specs.Report.{two, numbers, field}
+use lib.ListN.{length, drop}
+use Rattle.report.specs.Report.{field}
 use Rattle.report_read.specs.declared.Front.{Front}
 use Rattle.report_read.specs.declared.Front.the-variants.{Field, Cut}
 
@@ -17,14 +16,3 @@ Holds report at f = drop at report ≡ f ++ drop (at + length f) report
 pub data FrontAt (report : List ℕ) (at : ℕ) : Front → Type 0 where
   whole : {kind : ℕ} (body : List ℕ) → Holds report at (field kind body) → FrontAt report at (Field kind (length body))
   none : ((kind : ℕ) (body : List ℕ) → Holds report at (field kind body) → ⊥) → FrontAt report at Cut
-
--- From w to w′ place i of the list got the number that stands at a place of the report.
-pub record Placed (report : List ℕ) (at i : ℕ) (w w′ : List ℕ) : Type 0 where
-  pub number : ℕ
-  pub stands : Holds report at (two number)
-  pub stored : w′ ≡ set w (17003 + i) number
-
--- From w to w′ the list got the numbers that stand at the place, and nothing else changed.
-pub record ListRead (report : List ℕ) (at count : ℕ) (w w′ : List ℕ) : Type 0 where
-  pub kept : Within 17003 21003 w w′
-  pub read : Holds report at (numbers (listIn count w′))

@@ -1,15 +1,13 @@
-// The report's fields, read here and nowhere else: on this side it is the reader that unwraps Tag and wraps RecordNo. Document
-// 01, "The job and the report". Rests on meaning, table and report.
+// The report's fields, read here and nowhere else: on this side it is the reader that unwraps Tag. The numbers of a reason
+// are reason_field's. Document 01, "The job and the report". Rests on meaning and report.
 ghost use mathlib.Core.Path.{_≡_};
 ghost use mathlib.Core.Logic.{_↔_};
 ghost use mathlib.Core.Bool.{true};
 ghost use mathlib.Core.List.{[], _∷_};
 ghost use Prim.Native.Nat.{ℕ, _+_, _*_, _≤_, _<_};
 ghost use lib.ListN.{length};
-ghost use Rattle.table.specs.Map.{listOf, listIn};
 ghost use Rattle.report.specs.Report.{two, numbers, field};
-ghost use Rattle.report_read.specs.Read.{Holds, FrontAt, Placed, ListRead};
-use meaning::RecordNo;
+ghost use Rattle.report_read.specs.Read.{Holds, FrontAt};
 use meaning::Tag;
 use report::APART;
 use report::LED;
@@ -100,50 +98,4 @@ pub fn is_apart(report: &[u8], at: usize) -> bool
         return false;
     }
     number_in(report, at + 1) == 0
-}
-
-// The number at a place of a reason whose numbers begin at `at` comes to its place in the list.
-fn read_listed(report: &[u8], at: usize, work: &mut [u16], i: usize)
-    requires { ⌜ (32768 ≤ length (now work)) × (i < 4000) × (at + 2 * i + 2 ≤ length (now report)) ⌝ }
-    ensures { λ _. ⌜ Placed (now (report .entry)) (at + 2 * i) i (now (work .entry)) (now (work .exit)) ⌝ }
-{
-    let n = number_in(report, at + 2 * i);
-    table::put_listed(work, i, RecordNo(n));
-}
-
-// The numbers of a reason come to the front of the list.
-pub fn read_reason(report: &[u8], at: usize, work: &mut [u16], count: usize)
-    requires { ⌜ (32768 ≤ length (now work)) × (count ≤ 4000) × (at + 2 * count ≤ length (now report)) ⌝ }
-    ensures { λ _. ⌜ ListRead (now (report .entry)) at count (now (work .entry)) (now (work .exit)) ⌝ }
-{
-    let mut i = 0;
-    while i < count {
-        read_listed(report, at, work, i);
-        i += 1;
-    }
-}
-
-// Whether the number at a place of the list stands at its place in a reason whose numbers begin at `at`.
-fn is_listed(report: &[u8], at: usize, work: &[u16], i: usize) -> bool
-    requires { ⌜ (32768 ≤ length (now work)) × (i < 4000) × (at + 2 * i + 2 ≤ length (now report)) ⌝ }
-    ensures { λ r. ⌜ (r ≡ true) ↔ Holds (now (report .entry)) (at + 2 * i) (two (listOf (now (work .entry)) i)) ⌝ }
-{
-    let r = table::listed(work, i);
-    number_in(report, at + 2 * i) == r.0
-}
-
-// Whether the first numbers of the list stand at a place, one behind the other.
-pub fn is_list(report: &[u8], at: usize, work: &[u16], count: usize) -> bool
-    requires { ⌜ (32768 ≤ length (now work)) × (count ≤ 4000) × (at + 2 * count ≤ length (now report)) ⌝ }
-    ensures { λ r. ⌜ (r ≡ true) ↔ Holds (now (report .entry)) at (numbers (listIn count (now (work .entry)))) ⌝ }
-{
-    let mut i = 0;
-    while i < count {
-        if is_listed(report, at, work, i) {
-            i += 1;
-        } else {
-            return false;
-        }
-    }
-    true
 }

@@ -10,7 +10,7 @@ use Rattle.meaning.specs.Following.{At, eq}
 use Rattle.table.specs.Map.{leftOf, rightOf, resultOf, labelOf, recAt, recordsIn, Loaded, Within}
 use Rattle.table.proofs.Frame.{length-gather, getD-gather}
 use Rattle.labels.proofs.Rows.{result-small}
-use Rattle.labels.proofs.Views.{lefts, rights, results}
+use Rattle.table.proofs.Kept.{lefts, rights, results}
 use Rattle.index.specs.State.{eqnAt}
 use Rattle.settling.specs.State.{Level}
 

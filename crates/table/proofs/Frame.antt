@@ -6,8 +6,8 @@ use native.Mathlib.Decide.{ℕ-discrete, decLt}
 use mathlib.Core.Path.{_≡_, refl, sym, _∙_, ap, fun-ext}
 use mathlib.Core.Logic.{_≢_, _⊎_, inl, inr}
 use mathlib.Core.Bool.{Bool, true, false, cond}
-use mathlib.Core.List.{List, [], _∷_, _++_, List·Memᴰ, List·Memᴰ·head, List·Memᴰ·tail, List·Memᴰ·append-cases, List·Memᴰ·eq-of-singleton, List·Memᴰ·not-nil, Memᴰ·append-left, Memᴰ·append-right}
-use lib.Dec.{eqb, leb, ltb}
+use mathlib.Core.List.{List, [], _∷_, _++_, List·Memᴰ, List·Memᴰ·head, List·Memᴰ·append-cases, List·Memᴰ·eq-of-singleton, List·Memᴰ·not-nil, Memᴰ·append-left, Memᴰ·append-right}
+use lib.Dec.{eqb, leb}
 use borrow.Author.Tests.{lt-ltb, le-ltb, le-leb, lt-leb, eq-eqb, ne-eqb}
 use lib.ListN.{length, getD, set, length-set, length-append, List·getD-append}
 use lib.Seq.{getD-set-same, getD-set-other, getD-append-seam}
@@ -79,9 +79,17 @@ within-set a e w j v l k = record { size = length-set w j v; same = λ i h. getD
     other i (inr h) q = omega arith
 
 -- Where the lists of uses stand.
+pub uses-least : (b : Bool) → 30764 ≤ cond b 31764 30764
+uses-least true = omega arith
+uses-least false = omega arith
+
 pub uses-most : (b : Bool) → cond b 31764 30764 ≤ 31764
 uses-most true = omega arith
 uses-most false = omega arith
+
+pub mores-least : (b : Bool) → 17003 ≤ cond b 22003 17003
+mores-least true = omega arith
+mores-least false = omega arith
 
 pub mores-most : (b : Bool) → cond b 22003 17003 ≤ 22003
 mores-most true = omega arith

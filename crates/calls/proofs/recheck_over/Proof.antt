@@ -46,14 +46,14 @@ use Rattle.records.specs.declared.Record.{Record}
 use Rattle.records.proofs.Rows.{big-lit, R, val, vals, tells, typed}
 use Rattle.records.proofs.Record as T
 use Rattle.records.proofs.Record.Laws as T′
-use Rattle.parts.specs.declared.Finding.{Finding}
-use Rattle.haltzurme.specs.Recheck.{Rechecked}
-use Rattle.parts.proofs.Finding as N
-use Rattle.parts.proofs.Finding.Laws as N′
-use Rattle.haltzurme.proofs.recheck as recheck-it
-use Rattle.haltzurme.proofs.recheck.Symbol as recheck-def
-use Rattle.haltzurme.proofs.recheck.Symbol.{name as #haltzurme·recheck}
-use Rattle.haltzurme.proofs.recheck.Met as recheck-thm
+use Rattle.weighing.specs.declared.Finding.{Finding}
+use Rattle.rechecking.specs.Recheck.{Rechecked}
+use Rattle.weighing.proofs.Finding as N
+use Rattle.weighing.proofs.Finding.Laws as N′
+use Rattle.rechecking.proofs.recheck as recheck-it
+use Rattle.rechecking.proofs.recheck.Symbol as recheck-def
+use Rattle.rechecking.proofs.recheck.Symbol.{name as #rechecking·recheck}
+use Rattle.rechecking.proofs.recheck.Met as recheck-thm
 use Rattle.calls.specs.Plain.{filled, RecheckedOver}
 use Rattle.calls.proofs.Local.{table-in, table-out}
 use Rattle.calls.proofs.recheck_over.Key.{name as #calls·recheck-over}
@@ -171,7 +171,7 @@ module _ {M : Type 1} (𝓤 : URA M) (H : Heap 𝓤) (A : Atoms 𝓤) (W : Given
     goes : ent 𝓤 (⋆ 𝓤 H A (Toks₄ ∷ Owns₄ ∷ [])) (Recheck 𝓤 H A at-mem run .pre to)
     goes = qed W (Toks₄ ∷ Owns₄ ∷ []) ∵ nothing ! $ move ! (1 ∷ 2 ∷ 0 ∷ []) $ join ! $ frame ! $ done !
 
-  module _ (C : Calls 𝓤 H) (Λ : Loops 𝓤 H) (fm : FmC 𝓤 H (W .laws) C) (known : Triple 𝓤 (C #haltzurme·recheck) (Recheck 𝓤 H A at-mem run)) (l₀ l₁ l₂ l₃ l₄ l₅ l₆ l₇ l₈ l₉ : ℕ) where
+  module _ (C : Calls 𝓤 H) (Λ : Loops 𝓤 H) (fm : FmC 𝓤 H (W .laws) C) (known : Triple 𝓤 (C #rechecking·recheck) (Recheck 𝓤 H A at-mem run)) (l₀ l₁ l₂ l₃ l₄ l₅ l₆ l₇ l₈ l₉ : ℕ) where
     abbrev τj : Ty
     τj = sliceTy (tyRef (named 0) imm (tyInt w8))
 
@@ -218,7 +218,7 @@ module _ {M : Type 1} (𝓤 : URA M) (H : Heap 𝓤) (A : Atoms 𝓤) (W : Given
         move ! (1 ∷ 0 ∷ []) $ join ! $ move ! (1 ∷ 0 ∷ []) $ join ! $ owned ! Ans (Is Ans) (LL.makes N.the-type N′.the-plain 𝓤 H A) r (w ∷ []) is $ owned ! R (Is R) (LL.makes T.the-type T′.the-plain 𝓤 H A) each _ is-each $
         keep ! (2 ∷ 6 ∷ 5 ∷ 3 ∷ 0 ∷ 1 ∷ []) $ by ! (exits r w (zs .1 .1 .1 .0) lw (record { records = zs .1 .1 .0; rechecked = e; workKept = lw })))))))))
 
-  module _ (C : Calls 𝓤 H) (Λ : Loops 𝓤 H) (fm : FmC 𝓤 H (W .laws) C) (known : Triple 𝓤 (C #haltzurme·recheck) (Recheck 𝓤 H A at-mem run)) where
+  module _ (C : Calls 𝓤 H) (Λ : Loops 𝓤 H) (fm : FmC 𝓤 H (W .laws) C) (known : Triple 𝓤 (C #rechecking·recheck) (Recheck 𝓤 H A at-mem run)) where
     walk : ent 𝓤 (onEntry 𝓤 H A f.signature (κj, (κr, (κw, tt))) (qj, (qr, (qw, tt))) x at) (WpFn 𝓤 H C Λ code.function (vj ∷ vr ∷ vw ∷ val each ∷ []) Ends)
     walk =
         qed W (Toks ∷ Owns ∷ []) ∵ enter ! C Λ code.function (vj ∷ vr ∷ vw ∷ val each ∷ []) _ $
@@ -242,13 +242,13 @@ module _ {M : Type 1} (𝓤 : URA M) (H : Heap 𝓤) (A : Atoms 𝓤) (W : Given
         calls-it C Λ fm known l₀ l₁ l₂ l₃ l₄ l₅ l₆ l₇ l₈ l₉ ν γ)))))))))))))
 
 module _ {M : Type 1} (𝓤 : URA M) (H : Heap 𝓤) (A : Atoms 𝓤) (W : Given 𝓤 H A) (mem : Memory → SProp 𝓤) (run : Routine → Fun 𝓤) where
-  recheck-over-walks : (C : Calls 𝓤 H) (Λ : Loops 𝓤 H) → FmC 𝓤 H (W .laws) C → Triple 𝓤 (C #haltzurme·recheck) (Recheck 𝓤 H A mem run) → Walks 𝓤 H A f.ended stayed (WpFn 𝓤 H C Λ code.function) (f.clauses 𝓤 H A mem run)
+  recheck-over-walks : (C : Calls 𝓤 H) (Λ : Loops 𝓤 H) → FmC 𝓤 H (W .laws) C → Triple 𝓤 (C #rechecking·recheck) (Recheck 𝓤 H A mem run) → Walks 𝓤 H A f.ended stayed (WpFn 𝓤 H C Λ code.function) (f.clauses 𝓤 H A mem run)
   recheck-over-walks C Λ fm known = walked 𝓤 H A f.ended stayed (f.clauses 𝓤 H A mem run) (WpFn 𝓤 H C Λ code.function)
       (λ κs. (slice-vals, (slice-vals, (slice-vals, (vals, tt))))) (λ κs. (shr-slice-tells (named 0) (κs .0) u8, (shr-slice-tells (named 1) (κs .1 .0) u8, (mut-slice-tells (named 2) (κs .1 .1 .0) u16, (tells, tt)))))
       (λ κs qs bounds a g are. via 𝓤 _ (fst∗ 𝓤 _ (emp 𝓤))
       (walk 𝓤 H A W mem run (κs .0) (κs .1 .0) (κs .1 .1 .0) (qs .0) (qs .1 .0) (qs .1 .1 .0) (a .0) (a .1 .0) (a .1 .1 .0) (are .0 .0 .1) (are .1 .0 .0 .1) (are .1 .1 .0 .0 .1) (a .1 .1 .1 .0) (are .1 .1 .1 .0) C Λ fm known))
 
-recheck-over-meets : {M : Type 1} (𝓤 : URA M) (H : Heap 𝓤) (A : Atoms 𝓤) → Given 𝓤 H A → (mem : Memory → SProp 𝓤) (run : Routine → Fun 𝓤) (𝓣 : Tables 𝓤 H) → Triple 𝓤 (𝓣 .C #haltzurme·recheck) (Recheck 𝓤 H A mem run)
+recheck-over-meets : {M : Type 1} (𝓤 : URA M) (H : Heap 𝓤) (A : Atoms 𝓤) → Given 𝓤 H A → (mem : Memory → SProp 𝓤) (run : Routine → Fun 𝓤) (𝓣 : Tables 𝓤 H) → Triple 𝓤 (𝓣 .C #rechecking·recheck) (Recheck 𝓤 H A mem run)
     → Meets 𝓤 H A f.signature (WpFn 𝓤 H (𝓣 .C) (𝓣 .Λ) code.function) (f.spec 𝓤 H A mem run)
 recheck-over-meets 𝓤 H A W mem run 𝓣 known =
     walk-meets 𝓤 H A f.ended stayed W (goes-none-slice 𝓤 H A W 3 (0 ∷ []) tt (plain (λ _. u8)) yes, (goes-none-slice 𝓤 H A W 3 (1 ∷ []) tt (plain (λ _. u8)) yes, (goes-gave-slice 𝓤 H A W 3 2 tt (plain (λ _. u16)), (goes-none 𝓤 H A W 3 (λ _. R) yes (λ κs x f. refl), tt))))
@@ -260,4 +260,4 @@ recheck-over-spec 𝓤 H 𝓜 𝓖 𝓡 =
     entered 𝓤 H (tripleOf 𝓤 H (𝓖 .A) f.signature (f.spec 𝓤 H (𝓖 .A) (𝓜 .mem) (𝓡 .run)))
     (tables 𝓤 H 𝓜 𝓡 code.env .C) (tables 𝓤 H 𝓜 𝓡 code.env .Λ) #calls·recheck-over code.function (code.unfolded 𝓤 H 𝓜 𝓡)
     (recheck-over-meets 𝓤 H (𝓖 .A) (givenOf 𝓤 H 𝓜 𝓖) (𝓜 .mem) (𝓡 .run) (tablesOf 𝓤 H 𝓜 (tables 𝓤 H 𝓜 𝓡 code.env))
-    (cited 𝓤 H (Recheck 𝓤 H (𝓖 .A) (𝓜 .mem) (𝓡 .run)) 𝓜 𝓡 code.env #haltzurme·recheck recheck-def.routine code.calls-haltzurme·recheck (recheck-thm.met 𝓤 H 𝓜 𝓖 𝓡)))
+    (cited 𝓤 H (Recheck 𝓤 H (𝓖 .A) (𝓜 .mem) (𝓡 .run)) 𝓜 𝓡 code.env #rechecking·recheck recheck-def.routine code.calls-rechecking·recheck (recheck-thm.met 𝓤 H 𝓜 𝓖 𝓡)))

@@ -47,14 +47,14 @@ use Rattle.records.specs.declared.Record.{Record}
 use Rattle.records.proofs.Rows.{big-lit, R, val, vals, tells, typed}
 use Rattle.records.proofs.Record as T
 use Rattle.records.proofs.Record.Laws as T′
-use Rattle.parts.specs.declared.Answer.{Answer}
-use Rattle.haltzurme.specs.Run.{Ran}
-use Rattle.parts.proofs.Answer as N
-use Rattle.parts.proofs.Answer.Laws as N′
-use Rattle.haltzurme.proofs.run as run-it
-use Rattle.haltzurme.proofs.run.Symbol as run-def
-use Rattle.haltzurme.proofs.run.Symbol.{name as #haltzurme·run}
-use Rattle.haltzurme.proofs.run.Met as run-thm
+use Rattle.finishing.specs.declared.Answer.{Answer}
+use Rattle.running.specs.Run.{Ran}
+use Rattle.finishing.proofs.Answer as N
+use Rattle.finishing.proofs.Answer.Laws as N′
+use Rattle.running.proofs.run as run-it
+use Rattle.running.proofs.run.Symbol as run-def
+use Rattle.running.proofs.run.Symbol.{name as #running·run}
+use Rattle.running.proofs.run.Met as run-thm
 use Rattle.calls.specs.Plain.{filled, RanOver}
 use Rattle.calls.proofs.Local.{table-in, table-out}
 use Rattle.calls.proofs.Inside.{inside-room}
@@ -170,7 +170,7 @@ module _ {M : Type 1} (𝓤 : URA M) (H : Heap 𝓤) (A : Atoms 𝓤) (W : Given
     goes : ent 𝓤 (⋆ 𝓤 H A (Toks₄ ∷ Owns₄ ∷ [])) (Run 𝓤 H A at-mem run .pre to)
     goes = qed W (Toks₄ ∷ Owns₄ ∷ []) ∵ nothing ! $ move ! (1 ∷ 2 ∷ 0 ∷ []) $ join ! $ frame ! $ done !
 
-  module _ (C : Calls 𝓤 H) (Λ : Loops 𝓤 H) (fm : FmC 𝓤 H (W .laws) C) (known : Triple 𝓤 (C #haltzurme·run) (Run 𝓤 H A at-mem run)) (l₀ l₁ l₂ l₃ l₄ l₅ l₆ l₇ l₈ l₉ l₁₀ l₁₁ : ℕ) where
+  module _ (C : Calls 𝓤 H) (Λ : Loops 𝓤 H) (fm : FmC 𝓤 H (W .laws) C) (known : Triple 𝓤 (C #running·run) (Run 𝓤 H A at-mem run)) (l₀ l₁ l₂ l₃ l₄ l₅ l₆ l₇ l₈ l₉ l₁₀ l₁₁ : ℕ) where
     abbrev τj : Ty
     τj = sliceTy (tyRef (named 0) imm (tyInt w8))
 
@@ -218,7 +218,7 @@ module _ {M : Type 1} (𝓤 : URA M) (H : Heap 𝓤) (A : Atoms 𝓤) (W : Given
         move ! (1 ∷ 0 ∷ []) $ join ! $ move ! (1 ∷ 0 ∷ []) $ join ! $ owned ! Ans (Is Ans) (LL.makes N.the-type N′.the-plain 𝓤 H A) r (w ∷ []) is $ owned ! R (Is R) (LL.makes T.the-type T′.the-plain 𝓤 H A) each _ is-each $
         keep ! (2 ∷ 6 ∷ 5 ∷ 3 ∷ 0 ∷ 1 ∷ []) $ by ! (exits r w (zs .1 .0) (zs .1 .1 .1 .0) lr lw (record { records = zs .1 .1 .0; ran = e; roomKept = lr; workKept = lw; inside = inside-room e }))))))))))
 
-  module _ (C : Calls 𝓤 H) (Λ : Loops 𝓤 H) (fm : FmC 𝓤 H (W .laws) C) (known : Triple 𝓤 (C #haltzurme·run) (Run 𝓤 H A at-mem run)) where
+  module _ (C : Calls 𝓤 H) (Λ : Loops 𝓤 H) (fm : FmC 𝓤 H (W .laws) C) (known : Triple 𝓤 (C #running·run) (Run 𝓤 H A at-mem run)) where
     walk : ent 𝓤 (onEntry 𝓤 H A f.signature (κj, (κr, (κw, tt))) (qj, (qr, (qw, tt))) x at) (WpFn 𝓤 H C Λ code.function (vj ∷ vr ∷ vw ∷ val each ∷ []) Ends)
     walk =
         qed W (Toks ∷ Owns ∷ []) ∵ enter ! C Λ code.function (vj ∷ vr ∷ vw ∷ val each ∷ []) _ $
@@ -244,13 +244,13 @@ module _ {M : Type 1} (𝓤 : URA M) (H : Heap 𝓤) (A : Atoms 𝓤) (W : Given
         calls-it C Λ fm known l₀ l₁ l₂ l₃ l₄ l₅ l₆ l₇ l₈ l₉ l₁₀ l₁₁ ν γ)))))))))))))))
 
 module _ {M : Type 1} (𝓤 : URA M) (H : Heap 𝓤) (A : Atoms 𝓤) (W : Given 𝓤 H A) (mem : Memory → SProp 𝓤) (run : Routine → Fun 𝓤) where
-  run-over-walks : (C : Calls 𝓤 H) (Λ : Loops 𝓤 H) → FmC 𝓤 H (W .laws) C → Triple 𝓤 (C #haltzurme·run) (Run 𝓤 H A mem run) → Walks 𝓤 H A f.ended stayed (WpFn 𝓤 H C Λ code.function) (f.clauses 𝓤 H A mem run)
+  run-over-walks : (C : Calls 𝓤 H) (Λ : Loops 𝓤 H) → FmC 𝓤 H (W .laws) C → Triple 𝓤 (C #running·run) (Run 𝓤 H A mem run) → Walks 𝓤 H A f.ended stayed (WpFn 𝓤 H C Λ code.function) (f.clauses 𝓤 H A mem run)
   run-over-walks C Λ fm known = walked 𝓤 H A f.ended stayed (f.clauses 𝓤 H A mem run) (WpFn 𝓤 H C Λ code.function)
       (λ κs. (slice-vals, (slice-vals, (slice-vals, (vals, tt))))) (λ κs. (shr-slice-tells (named 0) (κs .0) u8, (mut-slice-tells (named 1) (κs .1 .0) u8, (mut-slice-tells (named 2) (κs .1 .1 .0) u16, (tells, tt)))))
       (λ κs qs bounds a g are. via 𝓤 _ (fst∗ 𝓤 _ (emp 𝓤))
       (walk 𝓤 H A W mem run (κs .0) (κs .1 .0) (κs .1 .1 .0) (qs .0) (qs .1 .0) (qs .1 .1 .0) (a .0) (a .1 .0) (a .1 .1 .0) (are .0 .0 .1) (are .1 .0 .0 .1) (are .1 .1 .0 .0 .1) (a .1 .1 .1 .0) (are .1 .1 .1 .0) C Λ fm known))
 
-run-over-meets : {M : Type 1} (𝓤 : URA M) (H : Heap 𝓤) (A : Atoms 𝓤) → Given 𝓤 H A → (mem : Memory → SProp 𝓤) (run : Routine → Fun 𝓤) (𝓣 : Tables 𝓤 H) → Triple 𝓤 (𝓣 .C #haltzurme·run) (Run 𝓤 H A mem run)
+run-over-meets : {M : Type 1} (𝓤 : URA M) (H : Heap 𝓤) (A : Atoms 𝓤) → Given 𝓤 H A → (mem : Memory → SProp 𝓤) (run : Routine → Fun 𝓤) (𝓣 : Tables 𝓤 H) → Triple 𝓤 (𝓣 .C #running·run) (Run 𝓤 H A mem run)
     → Meets 𝓤 H A f.signature (WpFn 𝓤 H (𝓣 .C) (𝓣 .Λ) code.function) (f.spec 𝓤 H A mem run)
 run-over-meets 𝓤 H A W mem run 𝓣 known =
     walk-meets 𝓤 H A f.ended stayed W (goes-none-slice 𝓤 H A W 3 (0 ∷ []) tt (plain (λ _. u8)) yes, (goes-gave-slice 𝓤 H A W 3 1 tt (plain (λ _. u8)), (goes-gave-slice 𝓤 H A W 3 2 tt (plain (λ _. u16)), (goes-none 𝓤 H A W 3 (λ _. R) yes (λ κs x f. refl), tt))))
@@ -262,4 +262,4 @@ run-over-spec 𝓤 H 𝓜 𝓖 𝓡 =
     entered 𝓤 H (tripleOf 𝓤 H (𝓖 .A) f.signature (f.spec 𝓤 H (𝓖 .A) (𝓜 .mem) (𝓡 .run)))
     (tables 𝓤 H 𝓜 𝓡 code.env .C) (tables 𝓤 H 𝓜 𝓡 code.env .Λ) #calls·run-over code.function (code.unfolded 𝓤 H 𝓜 𝓡)
     (run-over-meets 𝓤 H (𝓖 .A) (givenOf 𝓤 H 𝓜 𝓖) (𝓜 .mem) (𝓡 .run) (tablesOf 𝓤 H 𝓜 (tables 𝓤 H 𝓜 𝓡 code.env))
-    (cited 𝓤 H (Run 𝓤 H (𝓖 .A) (𝓜 .mem) (𝓡 .run)) 𝓜 𝓡 code.env #haltzurme·run run-def.routine code.calls-haltzurme·run (run-thm.met 𝓤 H 𝓜 𝓖 𝓡)))
+    (cited 𝓤 H (Run 𝓤 H (𝓖 .A) (𝓜 .mem) (𝓡 .run)) 𝓜 𝓡 code.env #running·run run-def.routine code.calls-running·run (run-thm.met 𝓤 H 𝓜 𝓖 𝓡)))

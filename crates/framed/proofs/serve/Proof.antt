@@ -1,16 +1,17 @@
--- `framed::serve` is safe and ends: the turns that are left fall by one, and what is lent keeps its length.
+-- `framed::serve` is safe and ends: the numbers that are left above the count fall by one.
 -- Assumes nothing.
 use borrow.Author.Needs.{needs}
 use Rattle.framed.proofs.serve.Statement.{statement}
 use Rattle.framed.proofs.serve.Tie as tie
+use Prim.Native.Nat.{_-_}
 use mathlib.Core.Path.{_≡_}
 use lib.ListN.{length}
 
 abbrev Inv-loop : tie.InvT-loop
-Inv-loop job₀ report₀ room₀ work₀ turns₀ s₀ job report room work turns s = (length job ≡ length job₀) × (length report ≡ length report₀) × (length room ≡ length room₀) × (length work ≡ length work₀)
+Inv-loop job₀ s₀ count₀ job s count = length job ≡ length job₀
 
 abbrev μ-loop : tie.MeasureT-loop
-μ-loop job₀ report₀ room₀ work₀ turns₀ s₀ job report room work turns s = turns
+μ-loop job₀ s₀ count₀ job s count = 18446744073709551615 - count
 
 loop-holds : tie.Need-loop-holds Inv-loop μ-loop
 loop-holds c = search needs
@@ -18,8 +19,8 @@ loop-holds c = search needs
 turn-requires : tie.Need-turn-requires Inv-loop μ-loop
 turn-requires c κs = search needs
 
-sub-turns : tie.Need-sub-turns Inv-loop μ-loop
-sub-turns c = search needs
+add-count : tie.Need-add-count Inv-loop μ-loop
+add-count c = search needs
 
 loop-less : tie.Need-loop-less Inv-loop μ-loop
 loop-less c = search needs
@@ -30,29 +31,11 @@ loop-again c = search needs
 same-length : tie.Need-same-length Inv-loop μ-loop
 same-length c = search needs
 
-same-length-2 : tie.Need-same-length-2 Inv-loop μ-loop
-same-length-2 c = search needs
-
-same-length-3 : tie.Need-same-length-3 Inv-loop μ-loop
-same-length-3 c = search needs
-
-same-length-4 : tie.Need-same-length-4 Inv-loop μ-loop
-same-length-4 c = search needs
-
 returns : tie.Need-returns Inv-loop μ-loop
 returns c = search needs
 
-same-length-5 : tie.Need-same-length-5 Inv-loop μ-loop
-same-length-5 c = search needs
-
-same-length-6 : tie.Need-same-length-6 Inv-loop μ-loop
-same-length-6 c = search needs
-
-same-length-7 : tie.Need-same-length-7 Inv-loop μ-loop
-same-length-7 c = search needs
-
-same-length-8 : tie.Need-same-length-8 Inv-loop μ-loop
-same-length-8 c = search needs
+same-length-2 : tie.Need-same-length-2 Inv-loop μ-loop
+same-length-2 c = search needs
 
 returns-2 : tie.Need-returns-2 Inv-loop μ-loop
 returns-2 c = search needs
@@ -65,16 +48,10 @@ serve-spec =
     μ-loop
     loop-holds
     turn-requires
-    sub-turns
+    add-count
     loop-less
     loop-again
     same-length
-    same-length-2
-    same-length-3
-    same-length-4
     returns
-    same-length-5
-    same-length-6
-    same-length-7
-    same-length-8
+    same-length-2
     returns-2)

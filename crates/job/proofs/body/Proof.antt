@@ -7,7 +7,7 @@ use Rattle.job.specs.Reading.{bodyLength}
 use Rattle.job.specs.Answer.{kindOf}
 use Rattle.job.specs.declared.Kind.{Kind as KindCode}
 use mathlib.Core.Path.{ap}
-use Prim.Native.Nat.{ℕ, _-_}
+use Prim.Native.Nat.{ℕ}
 use native.Mathlib.Omega.{arith}
 
 abbrev due : KindCode → ℕ

@@ -5,7 +5,7 @@ use Rattle.job.proofs.field_at.Statement.{statement}
 use Rattle.job.proofs.field_at.Tie as tie
 use borrow.Author.Tests.{le-leb, lt-leb}
 use Rattle.job.specs.Reading.{fieldAt}
-use Prim.Native.Nat.{_+_, _-_, _≤_, _<_}
+use Prim.Native.Nat.{_+_, _≤_, _<_}
 use native.Mathlib.Omega.{arith}
 use lib.ListN.{length}
 use denote.Ref.{now}

@@ -3,7 +3,7 @@
 use borrow.Author.Needs.{needs}
 use Rattle.job.proofs.number.Statement.{statement}
 use Rattle.job.proofs.number.Tie as tie
-use Prim.Native.Nat.{_+_, _-_}
+use Prim.Native.Nat.{_+_}
 use native.Mathlib.Omega.{arith}
 
 shared-slice-read-high : tie.Need-shared-slice-read-high

@@ -8,7 +8,6 @@ use Rattle.job.specs.Reading.{checked}
 use Rattle.job.specs.Answer.{said}
 use Rattle.job_read.proofs.Turning.{done-bad, done-end, end-there, on-header, on-record, on-ask, on-explain}
 use mathlib.Core.Path.{refl, sym, ap, _∙_}
-use Prim.Native.Nat.{_-_}
 use denote.Ref.{now}
 
 read-requires : tie.Need-read-requires

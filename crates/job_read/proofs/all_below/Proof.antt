@@ -3,7 +3,6 @@
 use borrow.Author.Needs.{needs}
 use Rattle.job_read.proofs.all_below.Statement.{statement}
 use Rattle.job_read.proofs.all_below.Tie as tie
-use Prim.Native.Nat.{_-_}
 
 are-below-requires : tie.Need-are-below-requires
 are-below-requires c κs = search needs

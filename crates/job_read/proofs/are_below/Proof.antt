@@ -3,7 +3,6 @@
 use borrow.Author.Needs.{needs}
 use Rattle.job_read.proofs.are_below.Statement.{statement}
 use Rattle.job_read.proofs.are_below.Tie as tie
-use Prim.Native.Nat.{_-_}
 
 is-below-requires : tie.Need-is-below-requires
 is-below-requires c κs = search needs

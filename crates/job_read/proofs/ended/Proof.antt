@@ -5,7 +5,7 @@ use Rattle.job_read.proofs.ended.Statement.{statement}
 use Rattle.job_read.proofs.ended.Tie as tie
 use borrow.Author.Tests.{le-leb, lt-leb}
 use Rattle.job_read.proofs.Turning.{plus-none}
-use Prim.Native.Nat.{_+_, _-_, _≤_, _<_}
+use Prim.Native.Nat.{_+_, _≤_, _<_}
 use native.Mathlib.Omega.{arith}
 use lib.ListN.{length}
 use denote.Ref.{now}

@@ -3,7 +3,6 @@
 use borrow.Author.Needs.{needs}
 use Rattle.job_read.proofs.is_numbered.Statement.{statement}
 use Rattle.job_read.proofs.is_numbered.Tie as tie
-use Prim.Native.Nat.{_-_}
 
 enum-told : tie.Need-enum-told
 enum-told c = search needs

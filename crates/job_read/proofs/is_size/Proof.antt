@@ -3,7 +3,6 @@
 use Rattle.job_read.proofs.is_size.Statement.{statement}
 use Rattle.job_read.proofs.is_size.Tie as tie
 use borrow.Author.Tests.{lt-ltb, le-ltb}
-use Prim.Native.Nat.{_-_}
 
 returns : tie.Need-returns
 returns c = simp (lt-ltb _ _ (c .if1 .taken))

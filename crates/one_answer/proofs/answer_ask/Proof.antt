@@ -1,9 +1,9 @@
 -- `one_answer::answer_ask` meets its contract: the leader at the age that the records had reached is the leader by those records.
 -- Assumes nothing.
 use borrow.Author.Needs.{needs}
-use Prim.Native.Nat.{ℕ, _+_}
+use Prim.Native.Nat.{ℕ}
 use native.Mathlib.Omega.{arith}
-use mathlib.Core.Path.{_≡_, sym, _∙_, ap}
+use mathlib.Core.Path.{_∙_, ap}
 use mathlib.Core.List.{[], _∷_}
 use denote.Ref.{now}
 use Rattle.table.proofs.Frame.{within-refl}

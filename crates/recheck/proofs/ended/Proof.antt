@@ -4,7 +4,7 @@ use borrow.Author.Needs.{needs}
 use native.Mathlib.Omega.{arith}
 use mathlib.Core.Path.{refl}
 use denote.Ref.{now}
-use Rattle.report_read.proofs.Read.{true-or-false}
+use Rattle.meaning.proofs.Tests.{true-or-false}
 use Rattle.recheck.specs.Ended.{right, spare, wrong}
 use Rattle.field_test.proofs.Right.{pair-room}
 use Rattle.recheck.proofs.ended.Statement.{statement}

@@ -11,7 +11,8 @@ use lib.ListN.{length}
 use denote.Ref.{now}
 use Rattle.report.specs.Report.{field}
 use Rattle.report_read.specs.Read.{Holds}
-use Rattle.report_read.proofs.Read.{is-not, is-so, holds-none, holds-field, number-held, front-kind, front-size, field-room}
+use Rattle.meaning.proofs.Tests.{is-not, is-so}
+use Rattle.report_read.proofs.Read.{holds-none, holds-field, number-held, front-kind, front-size, field-room}
 
 sub-if1 : tie.Need-sub-if1
 sub-if1 c = search needs

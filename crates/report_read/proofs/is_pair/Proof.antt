@@ -11,7 +11,8 @@ use lib.ListN.{length}
 use denote.Ref.{now}
 use Rattle.report.specs.Report.{numbers}
 use Rattle.report.proofs.Bytes.{length-numbers}
-use Rattle.report_read.proofs.Read.{is-not, is-so, number-held, front-kind, field-body, field-room, pair-first, pair-size, pair-last, holds-pair-field}
+use Rattle.meaning.proofs.Tests.{is-not, is-so}
+use Rattle.report_read.proofs.Read.{number-held, front-kind, field-body, field-room, pair-first, pair-size, pair-last, holds-pair-field}
 
 sub-if1 : tie.Need-sub-if1
 sub-if1 c = search needs

@@ -1,4 +1,4 @@
--- `run_cases::swept` is safe and ends: the measure is what is left.
+-- `run_cases::swept` is safe and ends: the measure is what is left of the table.
 -- Assumes nothing.
 use borrow.Author.Needs.{needs}
 use Rattle.run_cases.proofs.swept.Statement.{statement}
@@ -7,10 +7,10 @@ use Prim.Native.Nat.{_-_}
 use lib.ListN.{length}
 
 abbrev Inv-loop : tie.InvT-loop
-Inv-loop table i₀ good₀ i good = Unit {0}
+Inv-loop table i₀ i = Unit {0}
 
 abbrev μ-loop : tie.MeasureT-loop
-μ-loop table i₀ good₀ i good = length table - i
+μ-loop table i₀ i = length table - i
 
 loop-holds : tie.Need-loop-holds Inv-loop μ-loop
 loop-holds c = search needs
@@ -21,6 +21,9 @@ mul-if2 c = search needs
 shared-slice-read-if2 : tie.Need-shared-slice-read-if2 Inv-loop μ-loop
 shared-slice-read-if2 c = search needs
 
+returns : tie.Need-returns Inv-loop μ-loop
+returns c = search needs
+
 add-i : tie.Need-add-i Inv-loop μ-loop
 add-i c = search needs
 
@@ -30,8 +33,8 @@ loop-less c = search needs
 loop-again : tie.Need-loop-again Inv-loop μ-loop
 loop-again c = search needs
 
-returns : tie.Need-returns Inv-loop μ-loop
-returns c = search needs
+returns-2 : tie.Need-returns-2 Inv-loop μ-loop
+returns-2 c = search needs
 
 pub swept-spec : {M : Type 1} → statement M
 swept-spec =
@@ -42,7 +45,8 @@ swept-spec =
     loop-holds
     mul-if2
     shared-slice-read-if2
+    returns
     add-i
     loop-less
     loop-again
-    returns)
+    returns-2)

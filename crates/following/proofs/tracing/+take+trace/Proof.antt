@@ -1,10 +1,10 @@
 -- `following::tracing::trace` and `following::tracing::take` meet their contracts: each call goes on below the age of the join that it crosses
 -- or takes, and marks that join after all it rests on. The measure is the age, twice, so that the two may call each other. Assumes nothing.
-use Prim.Native.Nat.{ℕ, suc, _+_, _*_, _≤_, _<_}
+use Prim.Native.Nat.{ℕ, _+_, _*_, _<_}
 use native.Mathlib.Omega.{arith}
-use mathlib.Core.Path.{_≡_, refl, sym, _∙_}
+use mathlib.Core.Path.{refl, sym, _∙_}
 use mathlib.Core.Logic.{⊎-elim}
-use Rattle.following.proofs.Kept.{past-forest, holds-fewer}
+use Rattle.following.proofs.Kept.{past-forest}
 use Rattle.following.proofs.Crossing.{holds-ranged, crossed-of, together-near, together-far, kept-together, kept-still, caused-lefts, caused-rights, caused-one, caused-two, taken-known, traced-same, traced-cross}
 use Rattle.table.proofs.Frame.{within-trans}
 use borrow.Fn.Kinds.{In}

@@ -1,0 +1,50 @@
+-- The rest of a run: where it may go on, the report's writer has what it asks for, and what it leaves makes the promise; else the refusal is as it
+-- was seen. In both the work table is cleared last.
+-- Assumes nothing.
+use borrow.Author.Needs.{needs}
+use native.Mathlib.Omega.{arith}
+use denote.Ref.{now}
+use Rattle.finishing.proofs.finish.Statement.{statement}
+use Rattle.finishing.proofs.finish.Tie as tie
+use Rattle.finishing.proofs.Rest.{finish-asks, finish-done, finish-refused}
+
+respond-requires : tie.Need-respond-requires
+respond-requires c κs = let a = c .before .before .before .before .before .before in finish-asks (now (a .args .job)) (now (a .args .room)) (now (a .args .work)) (a .args .s) (a .pre) (c .before .before .if1 .taken)
+
+clear-requires : tie.Need-clear-requires
+clear-requires c κs = omega (arith, c .before .before .before .before .before .before .before .before .before .before .before .before .pre .long, c .before .before .before .before .before .respond .ensures .kept .size)
+
+clear-requires-2 : tie.Need-clear-requires-2
+clear-requires-2 c κs = c .before .before .before .before .before .pre .long
+
+same-length : tie.Need-same-length
+same-length c = search needs
+
+same-length-2 : tie.Need-same-length-2
+same-length-2 c = search needs
+
+returns : tie.Need-returns
+returns c =
+    let a = c .before .before .before .before .before .before .before .before .before .before .before .before .before .before .before in
+    finish-done (now (a .args .job)) (now (a .args .room)) (now (a .args .work)) (a .args .s) (a .pre) (c .before .before .before .before .before .before .before .before .before .before .before .if1 .taken) _ _ _ _ (c .before .before .before .before .before .before .before .before .respond .ensures) (c .before .before .clear .ensures)
+
+same-length-3 : tie.Need-same-length-3
+same-length-3 c = search needs
+
+returns-2 : tie.Need-returns-2
+returns-2 c =
+    let a = c .before .before .before .before .before .before .before .before in
+    finish-refused (now (a .args .job)) (now (a .args .room)) (now (a .args .work)) (a .args .s) (a .pre) _ (c .before .before .before .before .if1 .left) (c .before .before .clear2 .ensures)
+
+pub finish-spec : {M : Type 1} → statement M
+finish-spec =
+    tie.close
+    (tie.spec
+    respond-requires
+    clear-requires
+    clear-requires-2
+    same-length
+    same-length-2
+    returns
+    same-length-3
+    returns-2)

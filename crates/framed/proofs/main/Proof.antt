@@ -1,0 +1,20 @@
+-- `framed::main` is safe: the length of the zeros that are lent is a law's, since counting them takes long.
+-- Assumes nothing.
+use borrow.Author.Needs.{needs}
+use Rattle.framed.proofs.main.Statement.{statement}
+use Rattle.framed.proofs.main.Tie as tie
+use mathlib.Core.Path.{sym}
+use Prim.Native.Nat.{ℕ}
+use lib.ListN.{length-replicate}
+
+slice-aggregate-serve : tie.Need-slice-aggregate-serve
+slice-aggregate-serve c = sym (length-replicate {A = ℕ} 50000 0)
+
+serve-requires : tie.Need-serve-requires
+serve-requires c κs = search needs
+
+returns : tie.Need-returns
+returns c = search needs
+
+pub main-spec : {M : Type 1} → statement M
+main-spec = tie.close (tie.spec slice-aggregate-serve serve-requires returns)

@@ -1,3 +1,0 @@
-pub mod Clear
-pub mod Finish
-pub mod Weigh

@@ -1,0 +1,72 @@
+-- The rest of a recheck, with no record table in sight: what it begins with is what the closure and the judge ask for, and what those leave is
+-- what it promises, once the work table is cleared.
+-- Assumes nothing.
+use Prim.Native.Nat.{ℕ, _-_}
+use native.Mathlib.Omega.{arith}
+use mathlib.Core.Path.{_≡_, sym, _∙_, ap, subst}
+use mathlib.Core.Bool.{Bool, true, false}
+use mathlib.Core.List.{List}
+use lib.ListN.{length}
+use Rattle.meaning.specs.Following.{Rec, UpTo}
+use Rattle.meaning.specs.Totals.{Classes, Idles}
+use Rattle.job.specs.Items.{Item, accepted, itemsOf, recordsOf}
+use Rattle.job.specs.Reading.{reading, itemsIn}
+use Rattle.job.specs.Standing.{Job}
+use Rattle.job.proofs.Standing.{accepted-stands}
+use Rattle.table.specs.Map.{recordsIn}
+use Rattle.table.proofs.Frame.{within-wider, within-trans}
+use Rattle.table.proofs.Kept.{records-same}
+use Rattle.history.specs.Closing.{Closing}
+use Rattle.recheck.specs.Judging as g
+use Rattle.recheck.specs.Judging.{Judgeable, Judged, Verdict}
+use Rattle.recheck.specs.declared.Judgement.{Judgement}
+use Rattle.sight.specs.declared.Sight.{Sight}
+use Rattle.sight.specs.View as sees
+use Rattle.sight.specs.View.{Viewed}
+use Rattle.sight.proofs.Ready.{Ready, viewed-ready}
+use Rattle.lent.specs.Clear.{Cleared}
+use Rattle.lent.proofs.Clearing.{cleared-after}
+use Rattle.weighing.specs.Weigh as c
+use Rattle.weighing.specs.Weigh.{Opened, Weighed, findingOf}
+
+viewed-refused : {job report w w′ : List ℕ} {b : Bool} {n p N k m : ℕ} → Viewed job b n p N k m → b ≡ false → Cleared w w′ → Weighed job report w n p w′
+viewed-refused (sees.unread e) q x = c.unread e x
+viewed-refused (sees.ready e) q x = let z : _≡_ {A = ℕ} 0 1 = cc in absurd (omega arith)
+
+module _ (job report w : List ℕ) (s : Sight) (h : Opened job w s) where
+  pub weigh-refused : (w′ : List ℕ) → s .ready ≡ false → Cleared w w′ → Weighed job report w (s .number) (s .place) w′
+  weigh-refused w′ q x = viewed-refused (h .viewed) q x
+
+  module _ (q : s .ready ≡ true) where
+    viewed : Ready job (s .size) (s .records)
+    viewed = viewed-ready (h .viewed) q
+
+    reads : reading job ≡ accepted (s .size) (viewed .items)
+    reads = viewed .reads
+
+    alike : itemsIn job ≡ viewed .items
+    alike = ap itemsOf reads
+
+    module _ (w′ : List ℕ) (joins idle : ℕ) (d : Closing (s .size) (s .records) w w′ joins idle) where
+      held : recordsIn (s .records) w′ ≡ recordsOf (itemsIn job)
+      held = records-same (d .kept) (s .records) ∙ h .columns (s .size) (viewed .items) reads q ∙ ap recordsOf (sym alike)
+
+      pub weigh-asks : Judgeable job w′ (s .size) (s .records) joins idle
+      weigh-asks = record {
+        accepted = subst (Job job (s .size)) (sym alike) (accepted-stands job (s .size) (viewed .items) reads);
+        count = viewed .records ∙ ap (λ (x : List Item). length (recordsOf x)) (sym alike);
+        held = held;
+        past = d .past;
+        classes = subst (λ (rs : List Rec). Classes (s .size) (UpTo rs (s .records)) (s .size - joins)) held (d .classes);
+        idles = subst (λ (rs : List Rec). Idles (s .size) rs idle) held (d .idles);
+      }
+
+      pub weigh-done : (w″ w‴ : List ℕ) (j : Judgement) → Judged job report w′ w″ (s .size) j → Cleared w″ w‴ → Weighed job report w (findingOf j .number) (findingOf j .place) w‴
+      weigh-done w″ w‴ j b x = go j (subst (λ (y : List Item). Verdict (s .size) (recordsOf y) 0 y 0 report j) alike (b .verdict))
+        where
+          emptied : Cleared w w‴
+          emptied = cleared-after (within-trans (within-wider 0 32768 (omega arith) (omega arith) (d .kept)) (within-wider 0 32768 (omega arith) (omega arith) (b .kept))) x
+
+          go : (i : Judgement) → Verdict (s .size) (recordsOf (viewed .items)) 0 (viewed .items) 0 report i → Weighed job report w (findingOf i .number) (findingOf i .place) w‴
+          go i (g.sound o) = c.sound reads o emptied
+          go i (g.fault o) = c.unsound reads o emptied
