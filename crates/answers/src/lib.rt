@@ -1,5 +1,5 @@
 // The questions of an accepted job, answered one after the other: each by the joins that were made before it, as a field of the
-// report. Document 01, "The job and the report". Rests on job, closure, report and one_answer.
+// report. Document 01, "The job and the report". Rests on job, history, report and one_answer.
 ghost use mathlib.Core.Path.{_≡_};
 ghost use Prim.Native.Nat.{ℕ, _+_, _*_, _-_, _≤_, _<_, min};
 ghost use lib.ListN.{length};

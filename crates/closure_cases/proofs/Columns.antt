@@ -17,6 +17,7 @@ use Rattle.table.proofs.Frame.{seen-in, seen-within, within-wider, within-set}
 use Rattle.table.proofs.Columns.{stored, loaded-none, loaded-equation, loaded-application}
 use Rattle.closure.specs.Closing.{Listed, Entailing}
 use Rattle.history.specs.Closing.{Closing}
+use Rattle.closure_cases.specs.Desk.{May}
 use Rattle.table.proofs.Kept.{loaded-same}
 use Rattle.passes.proofs.Views.{listed-same}
 
@@ -30,11 +31,9 @@ record-listed L h = record {
 
 -- As the code has them.
 module _ {N len n : ℕ} {w : List ℕ} (L : Listed N len n w) (room : len < 4000) (a b : ℕ) where
-  pub one-equation : {w′ : List ℕ} → a < N → b < N → w′ ≡ stored w (len + 1) a b 65535 → Listed N (len + 1) n w′
-  one-equation x y e = record-listed L (loaded-equation (L .loaded) room a b x y e)
-
-  pub one-application : {w′ : List ℕ} (c : ℕ) → a < N → b < N → c < N → w′ ≡ stored w (len + 1) a b c → Listed N (len + 1) n w′
-  one-application c x y z e = record-listed L (loaded-application (L .loaded) room a b c x y z e)
+  pub one-record : {w′ : List ℕ} (c : ℕ) → May N a b c → w′ ≡ stored w (len + 1) a b c → Listed N (len + 1) n w′
+  one-record c (x, y, inl z) e = record-listed L (loaded-equation (L .loaded) room a b x y (rw z at e))
+  one-record c (x, y, inr z) e = record-listed L (loaded-application (L .loaded) room a b c x y z e)
 
 pub one-listed : {N len n : ℕ} {w w′ : List ℕ} → Listed N len n w → n < 4000 → (k : ℕ) → 1 ≤ k → k ≤ len → w′ ≡ set w (17003 + n) k → Listed N len (n + 1) w′
 one-listed {N} {len} {n} {w} {w′} L room k x y e = rw (e, add-one n) (record {

@@ -2,33 +2,17 @@
 // of idle records and every tag's leader, and for a list of records whether it makes two tags equal. Rests on history, following, closure and table.
 //
 // The cases are read as lines of four characters: what to do, and up to three numbers for it, each a character as far behind 0 as it is large (so
-// : is 10, and a dot is none). What an instruction may not do is left undone, and says so by a line. The table holds sevens before the first case and
+// : is 10, and a dot is none): `tN`, a case begins with N tags; `=ab.` and `=abc`, its next record is a = b or f(a, b) = c; `c`, all records are closed, and
+// what was found is written; `lk` and `n`, the list holds record k too, or none again; `ast`, whether the list makes s and t equal is written. What an instruction may not do is left undone, and says so by a line. The table holds sevens before the first case and
 // what the last one left before any other, which must not matter.
 ghost use mathlib.Core.Path.{_≡_};
+ghost use mathlib.Core.Bool.{true};
 ghost use Prim.Native.Nat.{_≤_, _<_};
 ghost use lib.ListN.{length};
 ghost use Rattle.following.specs.Meeting.{Forested};
-ghost use Rattle.closure_cases.specs.Desk.{Ready};
+ghost use Rattle.closure_cases.specs.Desk.{Ready, May};
 use meaning::RecordNo;
 use meaning::Tag;
-
-// A case begins, with so many tags.
-const TAGS: u8 = b't';
-
-// The next record is a = b, or f(a, b) = c.
-const EQUAL: u8 = b'=';
-
-const APPLY: u8 = b'f';
-
-// All records are closed, and what was found is written.
-const CLOSE: u8 = b'c';
-
-// The list holds one record more, or none again; whether it makes two tags equal is written.
-const LIST: u8 = b'l';
-
-const NONE: u8 = b'n';
-
-const ASK: u8 = b'a';
 
 // What stands on the table: so many tags, records, and numbers in the list.
 struct Desk {
@@ -43,9 +27,19 @@ fn wide(x: u16) -> usize
     x as usize
 }
 
-// The number that a character stands for.
-fn digit(b: u8) -> usize {
-    if b < b'0' { 0 } else { (b - b'0') as usize }
+// The number that the last character of a part of a line stands for.
+fn digit(part: u32) -> usize
+    ensures { λ r. ⌜ r ≤ 255 ⌝ }
+{
+    let b = part % 256;
+    if b < 48 { 0 } else { (b - 48) as usize }
+}
+
+// The result of a record, or the mark of an equation.
+fn result(l: u32) -> usize
+    ensures { λ r. ⌜ r ≤ 65535 ⌝ }
+{
+    if l % 256 == 46 { 65535 } else { digit(l) }
 }
 
 fn number(n: usize) {
@@ -83,15 +77,12 @@ fn refuse() {
 }
 
 // A case with so many tags begins.
-fn begin(work: &mut [u16], d: Desk, size: usize) -> Desk
+fn begin(work: &mut [u16], d: Desk, l: u32) -> Desk
     requires { ⌜ Ready d (now work) ⌝ }
     ensures { λ r. ⌜ Ready r (now (work .exit)) ⌝ }
 {
+    let size = digit(l / 65536);
     if size < 1 {
-        refuse();
-        return d;
-    }
-    if size > 1000 {
         refuse();
         return d;
     }
@@ -105,66 +96,64 @@ fn begin(work: &mut [u16], d: Desk, size: usize) -> Desk
     }
 }
 
-// The next record is a = b.
-fn equal(work: &mut [u16], d: Desk, a: usize, b: usize) -> Desk
-    requires { ⌜ Ready d (now work) ⌝ }
-    ensures { λ r. ⌜ Ready r (now (work .exit)) ⌝ }
+// Whether a, b and c may be a record's: tags, but that c may be the mark of an equation.
+fn may(size: usize, a: usize, b: usize, c: usize) -> bool
+    ensures { λ r. ⌜ (r ≡ true → May size a b c) ⌝ }
 {
-    if d.len >= 4000 {
-        refuse();
-        return d;
+    if a >= size {
+        return false;
     }
-    if a >= d.size {
-        refuse();
-        return d;
+    if b >= size {
+        return false;
     }
-    if b >= d.size {
-        refuse();
-        return d;
+    if c == 65535 {
+        return true;
     }
-    let k = d.len + 1;
-    table::put_equation(work, RecordNo(k as u16), Tag(a as u16), Tag(b as u16));
-    Desk {
-        size: d.size,
-        len: k,
-        n: d.n,
+    if c >= size {
+        return false;
     }
+    true
 }
 
-// The next record is f(a, b) = c.
-fn apply(work: &mut [u16], d: Desk, a: usize, b: usize, c: usize) -> Desk
+// The next record is f(a, b) = c, or a = b.
+fn add(work: &mut [u16], d: Desk, l: u32) -> Desk
     requires { ⌜ Ready d (now work) ⌝ }
     ensures { λ r. ⌜ Ready r (now (work .exit)) ⌝ }
 {
-    if d.len >= 4000 {
-        refuse();
-        return d;
-    }
-    if a >= d.size {
-        refuse();
-        return d;
-    }
-    if b >= d.size {
-        refuse();
-        return d;
-    }
-    if c >= d.size {
-        refuse();
-        return d;
-    }
     let k = d.len + 1;
-    table::put_application(
-        work,
-        RecordNo(k as u16),
-        Tag(a as u16),
-        Tag(b as u16),
-        Tag(c as u16),
-    );
-    Desk {
-        size: d.size,
-        len: k,
-        n: d.n,
+    let a = digit(l / 65536);
+    let b = digit(l / 256);
+    let c = result(l);
+    if k <= 4000 {
+        if may(d.size, a, b, c) {
+            table::put_application(
+                work,
+                RecordNo(k as u16),
+                Tag(a as u16),
+                Tag(b as u16),
+                Tag(c as u16),
+            );
+            return Desk {
+                size: d.size,
+                len: k,
+                n: d.n,
+            };
+        }
     }
+    refuse();
+    d
+}
+
+// What was closed: classes, idle records and leaders.
+fn tell(work: &[u16], joins: usize, idle: usize, size: usize)
+    requires { ⌜ Forested (now work) × (joins ≤ size) × (size ≤ 1000) ⌝ }
+{
+    io::write_all(1, b"classes");
+    number(size - joins);
+    io::write_all(1, b" idle");
+    number(idle);
+    io::write_all(1, b" leaders");
+    leaders(work, joins, size);
 }
 
 // All records are closed, which leaves the list to be made anew.
@@ -175,12 +164,7 @@ fn close(work: &mut [u16], d: Desk) -> Desk
     let size = d.size;
     let len = d.len;
     let t = history::close(work, size, len);
-    io::write_all(1, b"classes");
-    number(size - t.joins);
-    io::write_all(1, b" idle");
-    number(t.idle);
-    io::write_all(1, b" leaders");
-    leaders(work, t.joins, size);
+    tell(work, t.joins, t.idle, size);
     Desk {
         size: size,
         len: len,
@@ -188,11 +172,12 @@ fn close(work: &mut [u16], d: Desk) -> Desk
     }
 }
 
-// The list holds record k too.
-fn list(work: &mut [u16], d: Desk, k: usize) -> Desk
+// The list holds one record more.
+fn list(work: &mut [u16], d: Desk, l: u32) -> Desk
     requires { ⌜ Ready d (now work) ⌝ }
     ensures { λ r. ⌜ Ready r (now (work .exit)) ⌝ }
 {
+    let k = digit(l / 65536);
     if d.n >= 4000 {
         refuse();
         return d;
@@ -226,65 +211,86 @@ fn none(work: &mut [u16], d: Desk) -> Desk
     }
 }
 
-// Whether the list makes s and t equal.
-fn ask(work: &mut [u16], d: Desk, s: usize, t: usize) -> Desk
-    requires { ⌜ Ready d (now work) ⌝ }
-    ensures { λ r. ⌜ Ready r (now (work .exit)) ⌝ }
+// By which records s and t are asked for.
+fn question(work: &[u16], n: usize, s: usize, t: usize)
+    requires { ⌜ (32768 ≤ length (now work)) × (n ≤ 4000) ⌝ }
 {
-    if s >= d.size {
-        refuse();
-        return d;
-    }
-    if t >= d.size {
-        refuse();
-        return d;
-    }
-    let size = d.size;
-    let len = d.len;
-    let n = d.n;
     io::write_all(1, b"by");
     names(work, n);
     io::write_all(1, b":");
     number(s);
     number(t);
-    if closure::entails(work, size, len, n, Tag(s as u16), Tag(t as u16)) {
+}
+
+fn verdict(equal: bool) {
+    if equal {
         io::write_all(1, b" equal\n");
     } else {
         io::write_all(1, b" apart\n");
     }
-    d
 }
 
-// One instruction. Any other line is a comment.
-fn act(work: &mut [u16], d: Desk, what: u8, a: usize, b: usize, c: usize) -> Desk
+// Whether the list makes s and t equal.
+fn ask(work: &mut [u16], d: Desk, l: u32) -> Desk
     requires { ⌜ Ready d (now work) ⌝ }
     ensures { λ r. ⌜ Ready r (now (work .exit)) ⌝ }
 {
-    if what == TAGS {
-        return begin(work, d, a);
+    let s = digit(l / 65536);
+    let t = digit(l / 256);
+    if s < d.size {
+        if t < d.size {
+            question(work, d.n, s, t);
+            verdict(closure::entails(work, d.size, d.len, d.n, Tag(s as u16), Tag(t as u16)));
+            return d;
+        }
     }
-    if what == EQUAL {
-        return equal(work, d, a, b);
+    refuse();
+    d
+}
+
+// One instruction on the list. Any other line is a comment.
+fn act_on_list(work: &mut [u16], d: Desk, l: u32) -> Desk
+    requires { ⌜ Ready d (now work) ⌝ }
+    ensures { λ r. ⌜ Ready r (now (work .exit)) ⌝ }
+{
+    let what = l / 16777216;
+    if what == 108 {
+        return list(work, d, l);
     }
-    if what == APPLY {
-        return apply(work, d, a, b, c);
-    }
-    if what == CLOSE {
-        return close(work, d);
-    }
-    if what == LIST {
-        return list(work, d, a);
-    }
-    if what == NONE {
+    if what == 110 {
         return none(work, d);
     }
-    if what == ASK {
-        return ask(work, d, a, b);
+    if what == 97 {
+        return ask(work, d, l);
     }
     d
 }
 
-// All instructions, from a table of one tag and no record.
+// One instruction.
+fn act(work: &mut [u16], d: Desk, l: u32) -> Desk
+    requires { ⌜ Ready d (now work) ⌝ }
+    ensures { λ r. ⌜ Ready r (now (work .exit)) ⌝ }
+{
+    let what = l / 16777216;
+    if what == 116 {
+        return begin(work, d, l);
+    }
+    if what == 99 {
+        return close(work, d);
+    }
+    if what == 61 {
+        return add(work, d, l);
+    }
+    act_on_list(work, d, l)
+}
+
+fn join(high: u8, low: u8) -> u32
+    ensures { λ r. ⌜ r ≤ 65535 ⌝ }
+{
+    high as u32 * 256 + low as u32
+}
+
+// All instructions, from a table of one tag and no record. The four characters of a line go on as one number.
 fn run(work: &mut [u16], script: &[u8])
     requires { ⌜ 32768 ≤ length (now work) ⌝ }
 {
@@ -295,14 +301,8 @@ fn run(work: &mut [u16], script: &[u8])
     };
     let mut i = 0;
     while script.len() - i >= 5 {
-        d = act(
-            work,
-            d,
-            script[i],
-            digit(script[i + 1]),
-            digit(script[i + 2]),
-            digit(script[i + 3]),
-        );
+        let l = join(script[i], script[i + 1]) * 65536 + join(script[i + 2], script[i + 3]);
+        d = act(work, d, l);
         i += 5;
     }
 }

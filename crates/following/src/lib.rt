@@ -1,4 +1,4 @@
-// Following a reason: when two tags came together, and the joins that show them equal, marked. Document 01, "Reasons". Rests on closure,
-// whose joins it follows, and on table.
+// Following a reason: when two tags came together, and the joins that show them equal, marked. Document 01, "Reasons". Rests on table,
+// which holds the joins that the closure left.
 pub mod meeting;
 pub mod tracing;

@@ -143,10 +143,7 @@ fn with_report(job: &[u8], report: &[u8], s: Stand, count: usize) -> Stand {
     s
 }
 
-// No report here is longer than 300,000.
-fn report_frame(job: &[u8], n: usize, s: Stand, count: usize) -> Stand {
-    let mut space = [0u8; 300000];
-    let report: &mut [u8] = &mut space;
+fn report_frame(job: &[u8], report: &mut [u8], n: usize, s: Stand, count: usize) -> Stand {
     if fetch_front(report, n) {
         with_report(job, front(report, n), s, count)
     } else {
@@ -178,12 +175,12 @@ fn read_head() -> Head {
 }
 
 // A stream ends in front of a head, and has no other letters than these.
-fn turn(job: &mut [u8], s: Stand, count: usize) -> Stand {
+fn turn(job: &mut [u8], report: &mut [u8], s: Stand, count: usize) -> Stand {
     let head = read_head();
     if head.letter == b'J' {
         job_frame(job, head.size, count)
     } else if head.letter == b'P' {
-        report_frame(job, head.size, s, count)
+        report_frame(job, report, head.size, s, count)
     } else if head.got == 0 {
         halt()
     } else {
@@ -192,7 +189,7 @@ fn turn(job: &mut [u8], s: Stand, count: usize) -> Stand {
 }
 
 // Nothing says that a stream ends, so the frames are counted up to a number that no stream has.
-fn serve(job: &mut [u8]) {
+fn serve(job: &mut [u8], report: &mut [u8]) {
     let mut s = Stand {
         on: true,
         length: 0,
@@ -200,13 +197,19 @@ fn serve(job: &mut [u8]) {
     };
     let mut count: usize = 0;
     while count < usize::MAX && s.on {
-        s = turn(job, s, count);
+        s = turn(job, report, s, count);
         count += 1;
     }
+}
+
+// No report here is longer than 300,000. Their bytes are lent once, since filling them takes longer than a recheck.
+fn with_reports(job: &mut [u8]) {
+    let mut space = [0u8; 300000];
+    serve(job, &mut space);
 }
 
 // A job of more than 43,008 bytes is refused whatever its length.
 fn main() {
     let mut space = [0u8; 50000];
-    serve(&mut space);
+    with_reports(&mut space);
 }

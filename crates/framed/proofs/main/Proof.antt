@@ -7,14 +7,14 @@ use mathlib.Core.Path.{sym}
 use Prim.Native.Nat.{ℕ}
 use lib.ListN.{length-replicate}
 
-slice-aggregate-serve : tie.Need-slice-aggregate-serve
-slice-aggregate-serve c = sym (length-replicate {A = ℕ} 50000 0)
+slice-aggregate-with-reports : tie.Need-slice-aggregate-with-reports
+slice-aggregate-with-reports c = sym (length-replicate {A = ℕ} 50000 0)
 
-serve-requires : tie.Need-serve-requires
-serve-requires c κs = search needs
+with-reports-requires : tie.Need-with-reports-requires
+with-reports-requires c κs = search needs
 
 returns : tie.Need-returns
 returns c = search needs
 
 pub main-spec : {M : Type 1} → statement M
-main-spec = tie.close (tie.spec slice-aggregate-serve serve-requires returns)
+main-spec = tie.close (tie.spec slice-aggregate-with-reports with-reports-requires returns)

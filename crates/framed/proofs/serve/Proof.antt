@@ -8,10 +8,10 @@ use mathlib.Core.Path.{_≡_}
 use lib.ListN.{length}
 
 abbrev Inv-loop : tie.InvT-loop
-Inv-loop job₀ s₀ count₀ job s count = length job ≡ length job₀
+Inv-loop job₀ report₀ s₀ count₀ job report s count = (length job ≡ length job₀) × (length report ≡ length report₀)
 
 abbrev μ-loop : tie.MeasureT-loop
-μ-loop job₀ s₀ count₀ job s count = 18446744073709551615 - count
+μ-loop job₀ report₀ s₀ count₀ job report s count = 18446744073709551615 - count
 
 loop-holds : tie.Need-loop-holds Inv-loop μ-loop
 loop-holds c = search needs
@@ -31,11 +31,17 @@ loop-again c = search needs
 same-length : tie.Need-same-length Inv-loop μ-loop
 same-length c = search needs
 
+same-length-2 : tie.Need-same-length-2 Inv-loop μ-loop
+same-length-2 c = search needs
+
 returns : tie.Need-returns Inv-loop μ-loop
 returns c = search needs
 
-same-length-2 : tie.Need-same-length-2 Inv-loop μ-loop
-same-length-2 c = search needs
+same-length-3 : tie.Need-same-length-3 Inv-loop μ-loop
+same-length-3 c = search needs
+
+same-length-4 : tie.Need-same-length-4 Inv-loop μ-loop
+same-length-4 c = search needs
 
 returns-2 : tie.Need-returns-2 Inv-loop μ-loop
 returns-2 c = search needs
@@ -52,6 +58,8 @@ serve-spec =
     loop-less
     loop-again
     same-length
-    returns
     same-length-2
+    returns
+    same-length-3
+    same-length-4
     returns-2)
