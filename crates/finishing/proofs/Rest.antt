@@ -1,13 +1,14 @@
 -- The rest of a run, with no record table in sight: what it begins with is what the report's writer asks for, and what that leaves is what it
--- promises, once the work table is cleared.
+-- promises, once the work table is given back.
 -- Assumes nothing.
-use Prim.Native.Nat.{ℕ, _≤_}
+use Prim.Native.Nat.{ℕ, _≤_, _<_}
 use native.Mathlib.Omega.{arith}
-use mathlib.Core.Path.{_≡_, sym, _∙_, ap, subst}
-use mathlib.Core.Bool.{Bool, true, false}
+use mathlib.Core.Path.{_≡_, refl, sym, _∙_, ap, subst}
+use mathlib.Core.Bool.{true, false}
+use mathlib.Core.Logic.{_⊎_, inl, inr}
 use mathlib.Core.List.{List}
 use lib.ListN.{length}
-use Rattle.job.specs.Items.{Item, Reading, accepted, itemsOf, recordsOf, neededRoom}
+use Rattle.job.specs.Items.{Item, accepted, itemsOf, recordsOf, neededRoom}
 use Rattle.job.specs.Reading.{reading, itemsIn}
 use Rattle.job.specs.Standing.{Job}
 use Rattle.job.proofs.Standing.{accepted-stands}
@@ -18,31 +19,53 @@ use Rattle.answers.specs.Asking.{Responded}
 use Rattle.sight.specs.declared.Sight.{Sight}
 use Rattle.sight.specs.Look as l
 use Rattle.sight.specs.Look.{Looked}
-use Rattle.sight.proofs.Ready.{Ready, looked-ready}
-use Rattle.lent.specs.Clear.{Cleared}
-use Rattle.lent.proofs.Clearing.{cleared-after}
+use Rattle.sight.proofs.Ready.{Ready, looked-ready, looked-lent, ready-lent}
+use Rattle.lent.specs.Begun.{Begun}
+use Rattle.lent.specs.Clear.{Returned}
+use Rattle.lent.proofs.Clearing.{cleared-after, returned-true, returned-false}
 use Rattle.finishing.specs.Finish as f
-use Rattle.finishing.specs.Finish.{Begun, Finished}
+use Rattle.finishing.specs.Finish.{Fitted, Finished}
 
--- The needed room was compared.
-looked-fits : {job : List ℕ} {room : ℕ} {b : Bool} {n p N k : ℕ} → Looked job room b n p N k → b ≡ true → neededRoom N 0 (itemsIn job) ≤ room
-looked-fits (l.unread e) q = let z : _≡_ {A = ℕ} 0 1 = cc in absurd (omega arith)
-looked-fits (l.cramped e h) q = let z : _≡_ {A = ℕ} 0 1 = cc in absurd (omega arith)
-looked-fits {room = room} (l.ready {N = N} {items = items} e h) q = subst (λ (x : Reading). neededRoom N 0 (itemsOf x) ≤ room) (sym e) h
+-- The run may go on, and the room is large enough.
+pub record Roomy (s : Sight) (room : ℕ) : Type 0 where
+  pub ready : s .ready ≡ true
+  pub fits : s .needed ≤ room
+
+pub fitted-ready : {room : ℕ} (s r : Sight) → Fitted s room r → r .ready ≡ true → Roomy s room
+fitted-ready s r (f.cramped h) q = let z : _≡_ {A = ℕ} 0 1 = cc in absurd (omega arith)
+fitted-ready s r (f.roomy h) q = record { ready = q; fits = h }
+
+-- Only an accepted job needs room.
+needed-ready : {job : List ℕ} {c n room : ℕ} (s : Sight) → Looked job c n s → room < s .needed → s .ready ≡ true
+needed-ready s (l.long h) k = absurd (omega arith)
+needed-ready s (l.narrow h o) k = absurd (omega arith)
+needed-ready s (l.viewed h (l.unread e)) k = absurd (omega arith)
+needed-ready s (l.viewed h (l.ready e)) k = refl
 
 -- A refusal is as it was seen.
-looked-refused : {job room w w′ : List ℕ} {b : Bool} {n p N k : ℕ} → Looked job (length room) b n p N k → b ≡ false → Cleared w w′ → Finished job room w n p 0 room w′
-looked-refused (l.unread e) q x = f.unread e x
-looked-refused (l.cramped e h) q x = f.cramped e h x
-looked-refused (l.ready e h) q x = let z : _≡_ {A = ℕ} 0 1 = cc in absurd (omega arith)
+looked-refused : {job w w′ : List ℕ} {c n : ℕ} (room : List ℕ) (s : Sight) → Looked job c n s → s .ready ≡ false → Returned (s .lent) w w′ → Finished job room w s (s .number) (s .place) 0 room w′
+looked-refused {job} {w} room s (l.long h) q x = subst (λ (v : List ℕ). Finished job room w s 1 0 0 room v) (sym (returned-false x refl)) (f.declined refl)
+looked-refused {job} {w} room s (l.narrow h o) q x = subst (λ (v : List ℕ). Finished job room w s 2 0 0 room v) (sym (returned-false x refl)) (f.declined refl)
+looked-refused room s (l.viewed h (l.unread e)) q x = f.unread refl e (returned-true x refl)
+looked-refused room s (l.viewed h (l.ready e)) q x = let z : _≡_ {A = ℕ} 0 1 = cc in absurd (omega arith)
 
-module _ (job room w : List ℕ) (s : Sight) (h : Begun job room w s) where
-  pub finish-refused : (w′ : List ℕ) → s .ready ≡ false → Cleared w w′ → Finished job room w (s .number) (s .place) 0 room w′
-  finish-refused w′ q x = looked-refused (h .looked) q x
+-- The work table is as long as named where it is cleared.
+pub fitted-long : {job w : List ℕ} {room : ℕ} {s : Sight} → Begun job w s → (r : Sight) → Fitted s room r → (r .lent ≡ true) ⊎ (r .ready ≡ true) → 32768 ≤ length w
+fitted-long {s = s} h r (f.cramped k) o = looked-lent s (h .looked) (ready-lent s (h .looked) (needed-ready s (h .looked) k)) .enough .numbers
+fitted-long {s = s} h r (f.roomy k) (inl q) = looked-lent s (h .looked) q .enough .numbers
+fitted-long {s = s} h r (f.roomy k) (inr q) = looked-lent s (h .looked) (ready-lent s (h .looked) q) .enough .numbers
 
-  module _ (q : s .ready ≡ true) where
-    seen : Ready job (s .size) (s .records)
-    seen = looked-ready (h .looked) q
+module _ (job room w : List ℕ) (s : Sight) (h : Begun job w s) where
+  pub finish-refused : (r : Sight) (w′ : List ℕ) → Fitted s (length room) r → r .ready ≡ false → Returned (r .lent) w w′ → Finished job room w s (r .number) (r .place) 0 room w′
+  finish-refused r w′ (f.cramped k) q x =
+      let g : s .ready ≡ true = needed-ready s (h .looked) k in
+      let y : Ready job s = looked-ready s (h .looked) g in
+      f.cramped (ready-lent s (h .looked) g) (y .reads) (omega (arith, y .needed, k)) (returned-true x refl)
+  finish-refused r w′ (f.roomy k) q x = looked-refused room s (h .looked) q x
+
+  module _ (o : Roomy s (length room)) where
+    seen : Ready job s
+    seen = looked-ready s (h .looked) (o .ready)
 
     is : reading job ≡ accepted (s .size) (seen .items)
     is = seen .reads
@@ -50,18 +73,21 @@ module _ (job room w : List ℕ) (s : Sight) (h : Begun job room w s) where
     same : itemsIn job ≡ seen .items
     same = ap itemsOf is
 
+    enough : neededRoom (s .size) 0 (seen .items) ≤ length room
+    enough = omega (arith, seen .needed, o .fits)
+
     pub finish-asks : a.Ready job room w (s .size) (s .records)
     finish-asks = record {
-      short = h .short;
+      short = looked-lent s (h .looked) (ready-lent s (h .looked) (o .ready)) .enough .short;
       stands = subst (Job job (s .size)) (sym same) (accepted-stands job (s .size) (seen .items) is);
       few = seen .records ∙ ap (λ (x : List Item). length (recordsOf x)) (sym same);
-      loaded = h .loaded q;
-      records = h .columns (s .size) (seen .items) is q ∙ ap recordsOf (sym same);
-      fits = looked-fits (h .looked) q;
+      loaded = h .loaded (o .ready);
+      records = h .columns (s .size) (seen .items) is (o .ready) ∙ ap recordsOf (sym same);
+      fits = subst (λ (x : List Item). neededRoom (s .size) 0 x ≤ length room) (sym same) enough;
     }
 
-    pub finish-done : (room′ w′ w″ : List ℕ) (n : ℕ) → Responded job room w (s .size) room′ w′ n → Cleared w′ w″ → Finished job room w 0 0 n room′ w″
+    pub finish-done : (room′ w′ w″ : List ℕ) (n : ℕ) → Responded job room w (s .size) room′ w′ n → Returned true w′ w″ → Finished job room w s 0 0 n room′ w″
     finish-done room′ w′ w″ n d x =
         rw (d .size, d .front)
-        (f.done is (subst (λ (y : List Item). neededRoom (s .size) 0 y ≤ length room) same (looked-fits (h .looked) q)) (subst (λ (y : List Item). Sound (s .size) (recordsOf y) 0 y (d .bytes)) same (d .sound))
-        (cleared-after (within-wider 0 32768 (omega arith) (omega arith) (d .kept)) x))
+        (f.done (ready-lent s (h .looked) (o .ready)) is enough (subst (λ (y : List Item). Sound (s .size) (recordsOf y) 0 y (d .bytes)) same (d .sound))
+        (cleared-after (within-wider 0 32768 (omega arith) (omega arith) (d .kept)) (returned-true x refl)))

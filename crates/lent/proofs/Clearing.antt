@@ -2,14 +2,15 @@
 -- Assumes nothing.
 use Prim.Native.Nat.{ℕ, zero, suc, _≤_}
 use native.Mathlib.Omega.{arith}
-use mathlib.Core.Path.{_≡_, refl, _∙_, ap₂}
+use mathlib.Core.Path.{_≡_, refl, sym, subst, _∙_, ap₂}
+use mathlib.Core.Bool.{Bool, true, false}
 use mathlib.Core.Logic.{inr}
 use mathlib.Core.List.{List, [], _∷_, _++_}
 use lib.ListN.{length, getD, take, drop, length-append, length-drop, List·getD-append}
 use lib.Seq.{drop-at, length-take-le}
 use Rattle.table.specs.Map.{Within}
 use Rattle.labels.specs.Parts.{Fills}
-use Rattle.lent.specs.Clear.{Cleared}
+use Rattle.lent.specs.Clear.{Cleared, Returned, kept, cleared}
 
 pub cleared-part : (w p : List ℕ) → 32768 ≤ length w → length p ≡ length (take 32768 w) → Fills p 0 → Cleared w (p ++ drop 32768 w)
 cleared-part w p h e z =
@@ -34,3 +35,18 @@ cleared-after {w} {w′} f c = record {
   zero = c .zero;
   rest = c .rest ∙ drop-same 32768 w w′ (f .size) (λ i l. f .same i (inr l));
 }
+
+-- What is given back, by whether the lengths were right.
+pub returned-cleared : {b : Bool} {w w′ : List ℕ} → b ≡ true → Cleared w w′ → Returned b w w′
+returned-cleared {w = w} {w′ = w′} e x = subst (λ (b : Bool). Returned b w w′) (sym e) (cleared x)
+
+pub returned-kept : {b : Bool} {w : List ℕ} → b ≡ false → Returned b w w
+returned-kept {w = w} e = subst (λ (b : Bool). Returned b w w) (sym e) kept
+
+pub returned-true : {b : Bool} {w w′ : List ℕ} → Returned b w w′ → b ≡ true → Cleared w w′
+returned-true kept e = let z : _≡_ {A = ℕ} 0 1 = cc in absurd (omega arith)
+returned-true (cleared x) e = x
+
+pub returned-false : {b : Bool} {w w′ : List ℕ} → Returned b w w′ → b ≡ false → w′ ≡ w
+returned-false kept e = refl
+returned-false (cleared x) e = let z : _≡_ {A = ℕ} 0 1 = cc in absurd (omega arith)

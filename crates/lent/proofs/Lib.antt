@@ -1,3 +1,1 @@
 pub mod Clearing
-pub mod Columns
-pub mod Around

@@ -1,21 +1,27 @@
-// What is lent to the tool's calls and how it is given back: the lengths that document 01 names, and the work table cleared at the end of a call.
-// Document 01, "What is lent, and each refusal". Rests on labels.
+// How the work table is given back: its named places are zero after every answer but a refusal for lengths alone. Document 01, "What is lent, and
+// each refusal". Rests on sight and labels.
+ghost use mathlib.Core.Path.{_≡_};
+ghost use mathlib.Core.Bool.{true};
 ghost use Prim.Native.Nat.{_≤_};
 ghost use lib.ListN.{length};
-ghost use Rattle.lent.specs.Clear.{Cleared};
+ghost use Rattle.lent.specs.Clear.{Cleared, Returned};
 use labels::fill;
-
-// Document 01's limits: the longest job, and the named places of the record table and of the work table.
-pub const LONGEST: usize = 43008;
-
-pub const PLACES: usize = 4000;
-
-pub const NAMED: usize = 32768;
+use sight::NAMED;
 
 // The named places of the work table become zero.
-pub fn clear(work: &mut [u16])
+fn clear(work: &mut [u16])
     requires { ⌜ 32768 ≤ length (now work) ⌝ }
     ensures { λ _. ⌜ Cleared (now (work .entry)) (now (work .exit)) ⌝ }
 {
     fill(&mut work[0..NAMED], 0);
+}
+
+// They do where the lengths were right; otherwise nothing changes.
+pub fn give_back(work: &mut [u16], lent: bool)
+    requires { ⌜ (lent ≡ true → 32768 ≤ length (now work)) ⌝ }
+    ensures { λ _. ⌜ Returned lent (now (work .entry)) (now (work .exit)) ⌝ }
+{
+    if lent {
+        clear(work);
+    }
 }

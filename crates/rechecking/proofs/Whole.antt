@@ -1,31 +1,33 @@
--- The whole of a recheck from its parts: what was seen of the job says what the record table is asked for, what comes of that is what the rest
--- of the recheck begins with, and what it ends with is the recheck's promise once the record table is cleared.
+-- The whole of a recheck from its parts: what was received of the loans, and what the rest of the recheck ends with, is the recheck's promise.
 -- Assumes nothing.
 use Prim.Native.Nat.{ℕ}
 use native.Mathlib.Omega.{arith}
+use mathlib.Core.Path.{_≡_, sym, subst}
+use mathlib.Core.Bool.{true, false}
 use mathlib.Core.List.{List}
+use lib.ListN.{length}
 use Rattle.records.specs.declared.Record.{Record}
-use Rattle.records.specs.Table.{Blanked}
-use Rattle.fill.specs.Handing.{Handable, Handed}
 use Rattle.sight.specs.declared.Sight.{Sight}
-use Rattle.sight.specs.View.{Viewed}
-use Rattle.sight.proofs.Ready.{viewed-ready}
-use Rattle.lent.specs.Lent.{Lent}
-use Rattle.lent.proofs.Columns.{viewed-counts, in-columns, as-items, emptied}
-use Rattle.weighing.specs.Weigh as v
-use Rattle.weighing.specs.Weigh.{Opened, Weighed}
-use Rattle.rechecking.specs.Recheck as c
+use Rattle.sight.specs.Look as l
+use Rattle.sight.specs.Look.{Looked}
+use Rattle.sight.proofs.Ready.{viewed-lent}
+use Rattle.intake.specs.Received.{Received}
+use Rattle.intake.proofs.Columns.{received-lent, received-emptied}
+use Rattle.weighing.specs.Weigh as c
+use Rattle.weighing.specs.Weigh.{Weighed}
+use Rattle.rechecking.specs.Recheck as r
 use Rattle.rechecking.specs.Recheck.{Rechecked}
 
-module _ (job report : List ℕ) (t : List Record) (w : List ℕ) (s : Sight) (h : Lent job t w) (seen : Viewed job (s .ready) (s .number) (s .place) (s .size) (s .records) (s .needed)) where
-  pub viewed-handable : Handable job t w (s .records)
-  viewed-handable = record { places = h .places; numbers = h .numbers; count = viewed-counts seen }
+module _ (job report : List ℕ) (t : List Record) (w : List ℕ) where
+  -- A refusal for lengths alone is 1 or 2, and changes nothing.
+  declined-rechecked : (s : Sight) → Looked job (length t) (length w) s → s .lent ≡ false → Rechecked job report t w (s .number) (s .place) t w
+  declined-rechecked s (l.long h) q = r.long h
+  declined-rechecked s (l.narrow h o) q = r.narrow h o
+  declined-rechecked s (l.viewed h v) q = let e : s .lent ≡ true = viewed-lent s v in let z : _≡_ {A = ℕ} 0 1 = cc in absurd (omega arith)
 
-  module _ (t′ : List Record) (w′ : List ℕ) (d : Handed job t w (s .records) t′ w′) where
-    pub handed-opened : Opened job w′ s
-    handed-opened = record { long = omega (arith, d .frame .size, h .numbers); viewed = seen; loaded = in-columns job t w s h t′ w′ d (viewed-ready seen); columns = as-items job t w s h t′ w′ d (viewed-ready seen) }
-
-    pub weighed-rechecked : (n p : ℕ) (w″ : List ℕ) (t″ : List Record) → Weighed job report w′ n p w″ → Blanked t′ t″ → Rechecked job report t w n p t″ w″
-    weighed-rechecked n p w″ t″ (v.unread e x) b = c.unread h e (emptied job t w s h t′ w′ d x b)
-    weighed-rechecked n p w″ t″ (v.unsound e k x) b = c.unsound h e k (emptied job t w s h t′ w′ d x b)
-    weighed-rechecked n p w″ t″ (v.sound e k x) b = c.sound h e k (emptied job t w s h t′ w′ d x b)
+  pub weighed-rechecked : (s : Sight) (t′ : List Record) (w′ : List ℕ) → Received job t w s t′ w′ → (n p : ℕ) (w″ : List ℕ) → Weighed job report w′ s n p w″ → Rechecked job report t w n p t′ w″
+  weighed-rechecked s t′ w′ d n p w″ (c.declined q) =
+      subst (λ (u : List Record). Rechecked job report t w (s .number) (s .place) u w′) (sym (d .kept q .0)) (subst (λ (v : List ℕ). Rechecked job report t w (s .number) (s .place) t v) (sym (d .kept q .1)) (declined-rechecked s (d .looked) q))
+  weighed-rechecked s t′ w′ d n p w″ (c.unread q e x) = r.unread (received-lent d q) e (received-emptied d q x)
+  weighed-rechecked s t′ w′ d n p w″ (c.unsound q e o x) = r.unsound (received-lent d q) e o (received-emptied d q x)
+  weighed-rechecked s t′ w′ d n p w″ (c.sound q e o x) = r.sound (received-lent d q) e o (received-emptied d q x)

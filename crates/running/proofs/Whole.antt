@@ -1,32 +1,33 @@
--- The whole of a run from its parts: what was seen of the job says what the record table is asked for, what comes of that is what the rest of
--- the run begins with, and what it ends with is the run's promise once the record table is cleared.
+-- The whole of a run from its parts: what was received of the loans, and what the rest of the run ends with, is the run's promise.
 -- Assumes nothing.
 use Prim.Native.Nat.{ℕ}
 use native.Mathlib.Omega.{arith}
+use mathlib.Core.Path.{_≡_, sym, subst}
+use mathlib.Core.Bool.{true, false}
 use mathlib.Core.List.{List}
 use lib.ListN.{length}
 use Rattle.records.specs.declared.Record.{Record}
-use Rattle.records.specs.Table.{Blanked}
-use Rattle.fill.specs.Handing.{Handable, Handed}
 use Rattle.sight.specs.declared.Sight.{Sight}
+use Rattle.sight.specs.Look as l
 use Rattle.sight.specs.Look.{Looked}
-use Rattle.sight.proofs.Ready.{looked-ready}
-use Rattle.lent.specs.Lent.{Lent}
-use Rattle.lent.proofs.Columns.{looked-counts, in-columns, as-items, emptied}
+use Rattle.sight.proofs.Ready.{viewed-lent}
+use Rattle.intake.specs.Received.{Received}
+use Rattle.intake.proofs.Columns.{received-lent, received-emptied}
 use Rattle.finishing.specs.Finish as f
-use Rattle.finishing.specs.Finish.{Begun, Finished}
+use Rattle.finishing.specs.Finish.{Finished}
 use Rattle.running.specs.Run as r
 use Rattle.running.specs.Run.{Ran}
 
-module _ (job room : List ℕ) (t : List Record) (w : List ℕ) (s : Sight) (h : Lent job t w) (seen : Looked job (length room) (s .ready) (s .number) (s .place) (s .size) (s .records)) where
-  pub lent-handable : Handable job t w (s .records)
-  lent-handable = record { places = h .places; numbers = h .numbers; count = looked-counts seen }
+module _ (job room : List ℕ) (t : List Record) (w : List ℕ) where
+  -- A refusal for lengths alone is 1 or 2, and changes nothing.
+  declined-ran : (s : Sight) → Looked job (length t) (length w) s → s .lent ≡ false → Ran job room t w (s .number) (s .place) 0 room t w
+  declined-ran s (l.long h) q = r.long h
+  declined-ran s (l.narrow h o) q = r.narrow h o
+  declined-ran s (l.viewed h v) q = let e : s .lent ≡ true = viewed-lent s v in let z : _≡_ {A = ℕ} 0 1 = cc in absurd (omega arith)
 
-  module _ (t′ : List Record) (w′ : List ℕ) (d : Handed job t w (s .records) t′ w′) where
-    pub handed-begun : Begun job room w′ s
-    handed-begun = record { short = h .short; long = omega (arith, d .frame .size, h .numbers); looked = seen; loaded = in-columns job t w s h t′ w′ d (looked-ready seen); columns = as-items job t w s h t′ w′ d (looked-ready seen) }
-
-    pub finished-ran : (n p l : ℕ) (room′ w″ : List ℕ) (t″ : List Record) → Finished job room w′ n p l room′ w″ → Blanked t′ t″ → Ran job room t w n p l room′ t″ w″
-    finished-ran n p l room′ w″ t″ (f.unread e c) b = r.unread h e (emptied job t w s h t′ w′ d c b)
-    finished-ran n p l room′ w″ t″ (f.cramped e k c) b = r.cramped h e k (emptied job t w s h t′ w′ d c b)
-    finished-ran n p l room′ w″ t″ (f.done e k o c) b = r.done h e k o (emptied job t w s h t′ w′ d c b)
+  pub finished-ran : (s : Sight) (t′ : List Record) (w′ : List ℕ) → Received job t w s t′ w′ → (n p k : ℕ) (room′ w″ : List ℕ) → Finished job room w′ s n p k room′ w″ → Ran job room t w n p k room′ t′ w″
+  finished-ran s t′ w′ c n p k room′ w″ (f.declined q) =
+      subst (λ (u : List Record). Ran job room t w (s .number) (s .place) 0 room u w′) (sym (c .kept q .0)) (subst (λ (v : List ℕ). Ran job room t w (s .number) (s .place) 0 room t v) (sym (c .kept q .1)) (declined-ran s (c .looked) q))
+  finished-ran s t′ w′ c n p k room′ w″ (f.unread q e x) = r.unread (received-lent c q) e (received-emptied c q x)
+  finished-ran s t′ w′ c n p k room′ w″ (f.cramped q e h x) = r.cramped (received-lent c q) e h (received-emptied c q x)
+  finished-ran s t′ w′ c n p k room′ w″ (f.done q e h o x) = r.done (received-lent c q) e h o (received-emptied c q x)

@@ -1,15 +1,40 @@
--- What is known of a job and its room before anything is stored: a refusal, or N and the number of records.
+-- Document 01, "What is lent, and each refusal", numbers 1 to 8: what is known of a job and of the tables' lengths before anything is stored.
 -- Assumes nothing.
 use Prim.Native.Nat.{ℕ, _≤_, _<_}
 use mathlib.Core.Path.{_≡_}
-use mathlib.Core.Bool.{Bool, true, false}
+use mathlib.Core.Logic.{_⊎_}
+use mathlib.Core.Bool.{true, false}
 use mathlib.Core.List.{List}
 use lib.ListN.{length}
 use Rattle.job.specs.Items.{Item, refused, accepted, recordsOf, neededRoom}
 use Rattle.job.specs.Reading.{reading}
+use Rattle.sight.specs.declared.Sight.{Sight}
 
--- The numbers 3 to 8 with their place, then 9 for a room of too few bytes; or the run may go on.
-pub data Looked (job : List ℕ) (room : ℕ) : Bool → ℕ → ℕ → ℕ → ℕ → Type 0 where
-  unread : {n p : ℕ} → reading job ≡ refused n p → Looked job room false n p 0 0
-  cramped : {N : ℕ} {items : List Item} → reading job ≡ accepted N items → room < neededRoom N 0 items → Looked job room false 9 0 0 0
-  ready : {N : ℕ} {items : List Item} → reading job ≡ accepted N items → neededRoom N 0 items ≤ room → Looked job room true 0 0 N (length (recordsOf items))
+-- A refusal for lengths alone, which touches no table.
+abbrev pub declined : ℕ → Sight
+declined n = record { lent = false; ready = false; number = n; place = 0; size = 0; records = 0; needed = 0 }
+
+-- A refusal of the reading, by number and place.
+abbrev pub faulty : ℕ → ℕ → Sight
+faulty n p = record { lent = true; ready = false; number = n; place = p; size = 0; records = 0; needed = 0 }
+
+-- An accepted job of N tags and k records, whose report needs m bytes.
+abbrev pub counting : ℕ → ℕ → ℕ → Sight
+counting N k m = record { lent = true; ready = true; number = 0; place = 0; size = N; records = k; needed = m }
+
+-- What reading the job tells: the numbers 3 to 8 with their place, or N, the number of records and the needed room.
+pub data Viewed (job : List ℕ) : Sight → Type 0 where
+  unread : {n p : ℕ} → reading job ≡ refused n p → Viewed job (faulty n p)
+  ready : {N : ℕ} {items : List Item} → reading job ≡ accepted N items → Viewed job (counting N (length (recordsOf items)) (neededRoom N 0 items))
+
+-- The job and tables of c places and w numbers are not at fault by their lengths.
+pub record Enough (job : List ℕ) (c w : ℕ) : Type 0 where
+  pub short : length job ≤ 43008
+  pub places : 4000 ≤ c
+  pub numbers : 32768 ≤ w
+
+-- The same with 1, a job longer than 43,008 bytes, and 2, either table shorter than named, before it.
+pub data Looked (job : List ℕ) (places numbers : ℕ) : Sight → Type 0 where
+  long : 43008 < length job → Looked job places numbers (declined 1)
+  narrow : length job ≤ 43008 → (places < 4000) ⊎ (numbers < 32768) → Looked job places numbers (declined 2)
+  viewed : {s : Sight} → Enough job places numbers → Viewed job s → Looked job places numbers s

@@ -1,10 +1,10 @@
 -- The rest of a recheck, with no record table in sight: what it begins with is what the closure and the judge ask for, and what those leave is
--- what it promises, once the work table is cleared.
+-- what it promises, once the work table is given back.
 -- Assumes nothing.
-use Prim.Native.Nat.{ℕ, _-_}
+use Prim.Native.Nat.{ℕ, _-_, _≤_}
 use native.Mathlib.Omega.{arith}
-use mathlib.Core.Path.{_≡_, sym, _∙_, ap, subst}
-use mathlib.Core.Bool.{Bool, true, false}
+use mathlib.Core.Path.{_≡_, refl, sym, _∙_, ap, subst}
+use mathlib.Core.Bool.{true, false}
 use mathlib.Core.List.{List}
 use lib.ListN.{length}
 use Rattle.meaning.specs.Following.{Rec, UpTo}
@@ -21,25 +21,36 @@ use Rattle.recheck.specs.Judging as g
 use Rattle.recheck.specs.Judging.{Judgeable, Judged, Verdict}
 use Rattle.recheck.specs.declared.Judgement.{Judgement}
 use Rattle.sight.specs.declared.Sight.{Sight}
-use Rattle.sight.specs.View as sees
-use Rattle.sight.specs.View.{Viewed}
-use Rattle.sight.proofs.Ready.{Ready, viewed-ready}
-use Rattle.lent.specs.Clear.{Cleared}
-use Rattle.lent.proofs.Clearing.{cleared-after}
+use Rattle.sight.specs.Look as l
+use Rattle.sight.specs.Look.{Looked}
+use Rattle.sight.proofs.Ready.{Ready, looked-ready, looked-lent, ready-lent}
+use Rattle.lent.specs.Begun.{Begun}
+use Rattle.lent.specs.Clear.{Cleared, Returned}
+use Rattle.lent.proofs.Clearing.{cleared-after, returned-true, returned-false}
 use Rattle.weighing.specs.Weigh as c
-use Rattle.weighing.specs.Weigh.{Opened, Weighed, findingOf}
+use Rattle.weighing.specs.Weigh.{Weighed, findingOf}
 
-viewed-refused : {job report w w′ : List ℕ} {b : Bool} {n p N k m : ℕ} → Viewed job b n p N k m → b ≡ false → Cleared w w′ → Weighed job report w n p w′
-viewed-refused (sees.unread e) q x = c.unread e x
-viewed-refused (sees.ready e) q x = let z : _≡_ {A = ℕ} 0 1 = cc in absurd (omega arith)
+-- A refusal is as it was seen.
+looked-refused : {job report w w′ : List ℕ} {p n : ℕ} (s : Sight) → Looked job p n s → s .ready ≡ false → Returned (s .lent) w w′ → Weighed job report w s (s .number) (s .place) w′
+looked-refused {job} {report} {w} s (l.long h) q x = subst (λ (v : List ℕ). Weighed job report w s 1 0 v) (sym (returned-false x refl)) (c.declined refl)
+looked-refused {job} {report} {w} s (l.narrow h o) q x = subst (λ (v : List ℕ). Weighed job report w s 2 0 v) (sym (returned-false x refl)) (c.declined refl)
+looked-refused s (l.viewed h (l.unread e)) q x = c.unread refl e (returned-true x refl)
+looked-refused s (l.viewed h (l.ready e)) q x = let z : _≡_ {A = ℕ} 0 1 = cc in absurd (omega arith)
 
-module _ (job report w : List ℕ) (s : Sight) (h : Opened job w s) where
-  pub weigh-refused : (w′ : List ℕ) → s .ready ≡ false → Cleared w w′ → Weighed job report w (s .number) (s .place) w′
-  weigh-refused w′ q x = viewed-refused (h .viewed) q x
+module _ (job report w : List ℕ) (s : Sight) (h : Begun job w s) where
+  pub weigh-refused : (w′ : List ℕ) → s .ready ≡ false → Returned (s .lent) w w′ → Weighed job report w s (s .number) (s .place) w′
+  weigh-refused w′ q x = looked-refused s (h .looked) q x
+
+  -- The work table is as long as named where it is cleared.
+  pub weigh-long : s .lent ≡ true → 32768 ≤ length w
+  weigh-long q = looked-lent s (h .looked) q .enough .numbers
 
   module _ (q : s .ready ≡ true) where
-    viewed : Ready job (s .size) (s .records)
-    viewed = viewed-ready (h .viewed) q
+    pub lent : s .lent ≡ true
+    lent = ready-lent s (h .looked) q
+
+    viewed : Ready job s
+    viewed = looked-ready s (h .looked) q
 
     reads : reading job ≡ accepted (s .size) (viewed .items)
     reads = viewed .reads
@@ -61,12 +72,12 @@ module _ (job report w : List ℕ) (s : Sight) (h : Opened job w s) where
         idles = subst (λ (rs : List Rec). Idles (s .size) rs idle) held (d .idles);
       }
 
-      pub weigh-done : (w″ w‴ : List ℕ) (j : Judgement) → Judged job report w′ w″ (s .size) j → Cleared w″ w‴ → Weighed job report w (findingOf j .number) (findingOf j .place) w‴
+      pub weigh-done : (w″ w‴ : List ℕ) (j : Judgement) → Judged job report w′ w″ (s .size) j → Returned true w″ w‴ → Weighed job report w s (findingOf j .number) (findingOf j .place) w‴
       weigh-done w″ w‴ j b x = go j (subst (λ (y : List Item). Verdict (s .size) (recordsOf y) 0 y 0 report j) alike (b .verdict))
         where
           emptied : Cleared w w‴
-          emptied = cleared-after (within-trans (within-wider 0 32768 (omega arith) (omega arith) (d .kept)) (within-wider 0 32768 (omega arith) (omega arith) (b .kept))) x
+          emptied = cleared-after (within-trans (within-wider 0 32768 (omega arith) (omega arith) (d .kept)) (within-wider 0 32768 (omega arith) (omega arith) (b .kept))) (returned-true x refl)
 
-          go : (i : Judgement) → Verdict (s .size) (recordsOf (viewed .items)) 0 (viewed .items) 0 report i → Weighed job report w (findingOf i .number) (findingOf i .place) w‴
-          go i (g.sound o) = c.sound reads o emptied
-          go i (g.fault o) = c.unsound reads o emptied
+          go : (i : Judgement) → Verdict (s .size) (recordsOf (viewed .items)) 0 (viewed .items) 0 report i → Weighed job report w s (findingOf i .number) (findingOf i .place) w‴
+          go i (g.sound o) = c.sound lent reads o emptied
+          go i (g.fault o) = c.unsound lent reads o emptied

@@ -1,9 +1,10 @@
-// The rest of a recheck once the job has been read and its records stand in the work table: no record table is in sight. Document 01, "What is
+// The rest of a recheck once the record table has had its part: the report is judged and the work table is given back. Document 01, "What is
 // lent, and each refusal". Rests on sight, history, recheck and lent.
 ghost use mathlib.Core.Path.{_≡_};
-ghost use Rattle.weighing.specs.Weigh.{Opened, Weighed, findingOf};
+ghost use Rattle.lent.specs.Begun.{Begun};
+ghost use Rattle.weighing.specs.Weigh.{Weighed, findingOf};
 use history::close;
-use lent::clear;
+use lent::give_back;
 use recheck::Judgement;
 use recheck::judge;
 use sight::Sight;
@@ -29,16 +30,16 @@ fn found(j: Judgement) -> Finding
 
 // The rest of a recheck, with no record table in sight.
 pub fn weigh(job: &[u8], report: &[u8], work: &mut [u16], s: Sight) -> Finding
-    requires { ⌜ Opened (now job) (now work) s ⌝ }
-    ensures { λ r. ⌜ Weighed (now (job .entry)) (now (report .entry)) (now (work .entry)) (r .number) (r .place) (now (work .exit)) ⌝ }
+    requires { ⌜ Begun (now job) (now work) s ⌝ }
+    ensures { λ r. ⌜ Weighed (now (job .entry)) (now (report .entry)) (now (work .entry)) s (r .number) (r .place) (now (work .exit)) ⌝ }
 {
     if s.ready {
         let t = close(work, s.size, s.records);
         let j = judge(job, report, work, s.size, s.records, t.joins, t.idle);
-        clear(work);
+        give_back(work, true);
         found(j)
     } else {
-        clear(work);
+        give_back(work, s.lent);
         Finding {
             number: s.number,
             place: s.place,

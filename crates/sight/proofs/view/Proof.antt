@@ -3,7 +3,7 @@
 -- Assumes nothing.
 use borrow.Author.Needs.{needs}
 use Rattle.job_read.proofs.Telling.{told-refused, told-accepted}
-use Rattle.sight.specs.View.{unread}
+use Rattle.sight.specs.Look.{unread}
 use Rattle.sight.proofs.Ready.{taken-viewed}
 use Rattle.sight.proofs.view.Statement.{statement}
 use Rattle.sight.proofs.view.Tie as tie

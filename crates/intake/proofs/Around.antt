@@ -1,4 +1,4 @@
--- The calls that `carry_out` and `look_over` make alike: `take_in`, to which both tables are lent again, and `clear`, to which the record table goes.
+-- The calls that `receive` makes with the tables: `take_in`, to which both are lent again, and `clear`, to which the record table goes.
 -- What a walk does around them touches no local, so each part is a step over any context Γ, which antt reads once and without the locals:
 --     puts-take, goes-blank    what the callee asks for is put together        gets-take, gets-blank    what it gives is taken apart
 --     backs-take               both tables come back at their last lists
@@ -89,13 +89,13 @@ module _ {M : Type 1} (𝓤 : URA M) (H : Heap 𝓤) (A : Atoms 𝓤) (W : Given
     Waits-w = ‵ (LentAgain u16 κw (ν′ ∷ []) qw γw bw ow δ′ ws)
 
     -- the job is had twice, and the tokens and what is owned are put together
-    pub puts-take : {G : Goal 𝓤 H} {Γ : List (Item 𝓤)} {room tok : Item 𝓤} → s .records < 2 ^ 64 → Handable (xj .now) ys ws (s .records)
-        → Sq W (raw (Take 𝓤 H A mem run .pre to-take) ∷ Oj ∷ Waits-w ∷ Waits-c ∷ room ∷ tok ∷ Γ) G
-        → Sq W (‵ (MutSlice (named 0) (ν′ ∷ []) u16 .own (rw δ′ ws) (vW ws ∷ [])) ∷ ‵ (flft (ν′ ∷ []) fullShare) ∷ Waits-w ∷ ‵ (MutSlice (named 0) (ν ∷ []) R .own (rc δ ys) (vC ys ∷ [])) ∷ ‵ (flft (ν ∷ []) fullShare) ∷ Waits-c ∷ room ∷ tok ∷ Oj ∷ ‵ (flft κj qj) ∷ Γ) G
+    pub puts-take : {G : Goal 𝓤 H} {Γ : List (Item 𝓤)} → s .records < 2 ^ 64 → Handable (xj .now) ys ws (s .records)
+        → Sq W (raw (Take 𝓤 H A mem run .pre to-take) ∷ Oj ∷ Waits-w ∷ Waits-c ∷ Γ) G
+        → Sq W (‵ (MutSlice (named 0) (ν′ ∷ []) u16 .own (rw δ′ ws) (vW ws ∷ [])) ∷ ‵ (flft (ν′ ∷ []) fullShare) ∷ Waits-w ∷ ‵ (MutSlice (named 0) (ν ∷ []) R .own (rc δ ys) (vC ys ∷ [])) ∷ ‵ (flft (ν ∷ []) fullShare) ∷ Waits-c ∷ Oj ∷ ‵ (flft κj qj) ∷ Γ) G
     puts-take fits asked k =
-        move ! (8 ∷ []) $ use1 W (Oj ⊛ Oj) (shr-slice-copy 𝓤 H A W (named 0) κj u8 .twice xj (vj ∷ [])) $ split ! $
-        nothing ! $ move ! (4 ∷ 0 ∷ []) $ join ! $ move ! (6 ∷ 0 ∷ []) $ join ! $ move ! (9 ∷ 0 ∷ []) $ join ! $
-        -- [the tokens; job; job; work; what waits; records; what waits; room; its token; …]
+        move ! (6 ∷ []) $ use1 W (Oj ⊛ Oj) (shr-slice-copy 𝓤 H A W (named 0) κj u8 .twice xj (vj ∷ [])) $ split ! $
+        nothing ! $ move ! (4 ∷ 0 ∷ []) $ join ! $ move ! (6 ∷ 0 ∷ []) $ join ! $ move ! (7 ∷ 0 ∷ []) $ join ! $
+        -- [the tokens; job; job; work; what waits; records; what waits; …]
         nothing ! $ owned ! usize (Is usize) (uint-makes 𝓤 H A W w64) (s .records) _ (refl, fits) $ fjoin ! $ move ! (4 ∷ 0 ∷ []) $ fjoin ! $ move ! (5 ∷ 0 ∷ []) $ fjoin ! $ move ! (2 ∷ 0 ∷ []) $ fjoin ! $ move ! (1 ∷ 0 ∷ []) $
         use2 W (raw (Take 𝓤 H A mem run .pre to-take)) (goes-take asked) $ k
 
@@ -113,18 +113,18 @@ module _ {M : Type 1} (𝓤 : URA M) (H : Heap 𝓤) (A : Atoms 𝓤) (W : Given
         k z (zs .1 .0) (zs .1 .1 .0) e lc lw done-is))))))
 
     -- both tables come back at their last lists
-    pub backs-take : {G : Goal 𝓤 H} {Γ : List (Item 𝓤)} {room tok : Item 𝓤} (w : Val) (z : Unit {0}) (zc : List Record) (zw : List ℕ) → Soaks G → length zc ≡ length ys → length zw ≡ length ws
-        → Sq W (‵ (MutSlice (named 2) κc R .own (rc γc zc) (vC zc ∷ [])) ∷ ‵ (flft κc qc) ∷ ‵ (MutSlice (named 3) κw u16 .own (rw γw zw) (vW zw ∷ [])) ∷ ‵ (flft κw qw) ∷ room ∷ tok ∷ Oj ∷ ‵ (flft κj qj) ∷ Γ) G
-        → Sq W (‵ (unit .own z (w ∷ [])) ∷ Toks₃ ∷ ‵ (finally u16 δ′ zw) ∷ ‵ (finally R δ zc) ∷ Oj ∷ Waits-w ∷ Waits-c ∷ room ∷ tok ∷ Γ) G
+    pub backs-take : {G : Goal 𝓤 H} {Γ : List (Item 𝓤)} (w : Val) (z : Unit {0}) (zc : List Record) (zw : List ℕ) → Soaks G → length zc ≡ length ys → length zw ≡ length ws
+        → Sq W (‵ (MutSlice (named 1) κc R .own (rc γc zc) (vC zc ∷ [])) ∷ ‵ (flft κc qc) ∷ ‵ (MutSlice (named 2) κw u16 .own (rw γw zw) (vW zw ∷ [])) ∷ ‵ (flft κw qw) ∷ Oj ∷ ‵ (flft κj qj) ∷ Γ) G
+        → Sq W (‵ (unit .own z (w ∷ [])) ∷ Toks₃ ∷ ‵ (finally u16 δ′ zw) ∷ ‵ (finally R δ zc) ∷ Oj ∷ Waits-w ∷ Waits-c ∷ Γ) G
     backs-take w z zc zw soaks lc lw k =
         drop ! $ split ! $ move ! (1 ∷ []) $ split ! $
-        -- [ν's token; ν′'s ⊛ true; job's; work's last list; records's; job; what waits of work; of records; room; its token; …]
-        move ! (0 ∷ 4 ∷ 7 ∷ []) $ take-back 𝓤 H A W R κc qc γc bc oc ys (named 2) soaks roomc ν δ zc lc (
-        -- [records; its token; ν′'s ⊛ true; job's; work's last list; job; what waits of work; room; its token; …]
-        move ! (2 ∷ []) $ split ! $ move ! (0 ∷ 5 ∷ 7 ∷ []) $ take-back 𝓤 H A W u16 κw qw γw bw ow ws (named 3) soaks roomw ν′ δ′ zw lw (
-        -- [work; its token; true; records; its token; job's; job; room; its token; …]
-        move ! (2 ∷ []) $ drop ! $ move ! (2 ∷ 3 ∷ 0 ∷ 1 ∷ 6 ∷ 7 ∷ 5 ∷ 4 ∷ []) $
-        rewrite ! 0 (λ (n : ℕ). ‵ (MutSlice (named 2) κc R .own (rc γc zc) (sliceVal (bc, oc) n ∷ []))) (sym lc) refl $ rewrite ! 2 (λ (n : ℕ). ‵ (MutSlice (named 3) κw u16 .own (rw γw zw) (sliceVal (bw, ow) n ∷ []))) (sym lw) refl $ k))
+        -- [ν's token; ν′'s ⊛ true; job's; work's last list; records's; job; what waits of work; of records; …]
+        move ! (0 ∷ 4 ∷ 7 ∷ []) $ take-back 𝓤 H A W R κc qc γc bc oc ys (named 1) soaks roomc ν δ zc lc (
+        -- [records; its token; ν′'s ⊛ true; job's; work's last list; job; what waits of work; …]
+        move ! (2 ∷ []) $ split ! $ move ! (0 ∷ 5 ∷ 7 ∷ []) $ take-back 𝓤 H A W u16 κw qw γw bw ow ws (named 2) soaks roomw ν′ δ′ zw lw (
+        -- [work; its token; true; records; its token; job's; job; …]
+        move ! (2 ∷ []) $ drop ! $ move ! (2 ∷ 3 ∷ 0 ∷ 1 ∷ 5 ∷ 4 ∷ []) $
+        rewrite ! 0 (λ (n : ℕ). ‵ (MutSlice (named 1) κc R .own (rc γc zc) (sliceVal (bc, oc) n ∷ []))) (sym lc) refl $ rewrite ! 2 (λ (n : ℕ). ‵ (MutSlice (named 2) κw u16 .own (rw γw zw) (sliceVal (bw, ow) n ∷ []))) (sym lw) refl $ k))
 
   -- the call of `clear`, with the record table at u
   module _ (u : List Record) where
