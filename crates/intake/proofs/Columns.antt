@@ -13,7 +13,7 @@ use Rattle.job.specs.Reading.{reading}
 use Rattle.records.specs.declared.Record.{Record}
 use Rattle.records.specs.Table.{Blanked}
 use Rattle.records.proofs.Cleared.{blanked-over}
-use Rattle.table.specs.Map.{recordsIn, Loaded}
+use Rattle.table.specs.Map.{recordsIn}
 use Rattle.table.proofs.Frame.{within-wider, within-refl}
 use Rattle.fill.specs.Handing.{Counts, Handable, Handed}
 use Rattle.sight.specs.declared.Sight.{Sight}
