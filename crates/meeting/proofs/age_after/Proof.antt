@@ -1,4 +1,4 @@
--- `following::meeting::age_after` meets its contract: the loop counts the joins below a, as the definition does.
+-- `meeting::age_after` meets its contract: the loop counts the joins below a, as the definition does.
 -- Assumes nothing.
 use borrow.Author.Needs.{needs}
 use mathlib.Core.Path.{_≡_, _∙_}
@@ -8,9 +8,9 @@ use native.Mathlib.Omega.{arith}
 use lib.Dec.{leb}
 use Rattle.meaning.specs.Joins.{count}
 use Rattle.table.specs.Map.{whenOf}
-use Rattle.following.proofs.Moments.{count-in, count-out}
-use Rattle.following.proofs.meeting.age_after.Statement.{statement}
-use Rattle.following.proofs.meeting.age_after.Tie as tie
+use Rattle.meeting.proofs.Moments.{count-in, count-out}
+use Rattle.meeting.proofs.age_after.Statement.{statement}
+use Rattle.meeting.proofs.age_after.Tie as tie
 
 abbrev Inv-loop : tie.InvT-loop
 Inv-loop work joins before n₀ a₀ n a = (a ≤ joins) × (n ≤ a) × (n ≡ count (λ i. leb (whenOf work i) before) a)
