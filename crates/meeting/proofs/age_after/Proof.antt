@@ -39,8 +39,8 @@ loop-again c =
     let h = whenOf (c .before .before .before .before .before .args .work .now) in
     let k = c .before .before .before .before .before .args .before in
     ⊎-elim
-    (λ w. (omega arith, omega arith, w .1 ∙ count-in h k (at .a) (at .n) (c .before .made .result) (c .before .made .ensures) (w .0 .taken) (at .inv .2)))
-    (λ w. (omega arith, omega arith, w .1 ∙ count-out h k (at .a) (at .n) (c .before .made .result) (c .before .made .ensures) (w .0 .left) (at .inv .2))) (c .if1 .came)
+    (λ w. (omega arith, omega arith, w .1 ∙ count-in h k (at .a) (at .n) (c .before .made .result) (c .before .made .ensures) (omega (arith, w .0 .taken)) (at .inv .2)))
+    (λ w. (omega arith, omega arith, w .1 ∙ count-out h k (at .a) (at .n) (c .before .made .result) (c .before .made .ensures) (omega (arith, w .0 .left)) (at .inv .2))) (c .if1 .came)
 
 returns : tie.Need-returns Inv-loop μ-loop
 returns c = let q : c .before .loop .a ≡ c .before .before .before .args .joins = omega arith in rw (← q) (c .before .loop .inv .2)
