@@ -19,7 +19,7 @@ use Rattle.table.proofs.Frame.{within-refl, within-trans}
 use Rattle.report.specs.Report.{passed, answered, laid}
 use Rattle.report.proofs.Fits.{roomFor, answers-fits}
 use Rattle.report.proofs.Laid.{length-laid, laid-none, laid-then}
-use Rattle.following.proofs.Kept.{kept-past, kept-records}
+use Rattle.meeting.proofs.Kept.{kept-past, kept-records}
 use Rattle.one_answer.specs.Facing.{Facing, Answered}
 use Rattle.answers.specs.Asking.{itemSaid, isEnd, Asking, Meeting, Stepped, passes, asks, explains, Midway, Told}
 

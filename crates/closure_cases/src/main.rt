@@ -1,5 +1,5 @@
 // Runs document 01's small cases, and some of its sources', on the closure alone, and writes what it finds: after all records the numbers of classes and
-// of idle records and every tag's leader, and for a list of records whether it makes two tags equal. Rests on history, following, closure and table.
+// of idle records and every tag's leader, and for a list of records whether it makes two tags equal. Rests on history, meeting, closure and table.
 //
 // The cases are read as lines of four characters: what to do, and up to three numbers for it, each a character as far behind 0 as it is large (so
 // : is 10, and a dot is none): `tN`, a case begins with N tags; `=ab.` and `=abc`, its next record is a = b or f(a, b) = c; `c`, all records are closed, and
@@ -9,7 +9,7 @@ ghost use mathlib.Core.Path.{_≡_};
 ghost use mathlib.Core.Bool.{true};
 ghost use Prim.Native.Nat.{_≤_, _<_};
 ghost use lib.ListN.{length};
-ghost use Rattle.following.specs.Meeting.{Forested};
+ghost use Rattle.meeting.specs.Meeting.{Forested};
 ghost use Rattle.closure_cases.specs.Desk.{Ready, May};
 use meaning::RecordNo;
 use meaning::Tag;
@@ -53,7 +53,7 @@ fn leaders(work: &[u16], joins: usize, size: usize)
 {
     let mut x: usize = 0;
     while x < size {
-        let l = following::meeting::leader(work, joins, Tag(x as u16));
+        let l = meeting::leader(work, joins, Tag(x as u16));
         number(wide(l.0));
         x += 1;
     }

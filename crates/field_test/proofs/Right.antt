@@ -19,9 +19,9 @@ use Rattle.job.specs.Items.{ask, explain}
 use Rattle.table.specs.Map.{whenOf, recordsIn, listOf, listIn, Within}
 use Rattle.table.proofs.Frame.{within-refl, within-trans, within-wider, length-gather}
 use Rattle.table.specs.Past.{Past}
-use Rattle.following.specs.Meeting.{Met}
-use Rattle.following.proofs.Kept.{kept-records, kept-loaded}
-use Rattle.following.proofs.Moments.{met-join, met-first, met-later, met-never}
+use Rattle.meeting.specs.Meeting.{Met}
+use Rattle.meeting.proofs.Kept.{kept-records, kept-loaded}
+use Rattle.meeting.proofs.Moments.{met-join, met-first, met-later, met-never}
 use Rattle.report.specs.Report.{numbers, field, Answers, led, because, apart}
 use Rattle.report.specs.Fault.{Stands, stands}
 use Rattle.report_read.specs.Read.{Holds, FrontAt, whole, none}

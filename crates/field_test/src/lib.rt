@@ -28,11 +28,11 @@ fn came(work: &[u16], q: Question) -> usize
     if s.0 == t.0 {
         return 0;
     }
-    let b = following::meeting::met(work, s, t);
+    let b = meeting::met(work, s, t);
     if b >= 1000 {
         return q.before + 1;
     }
-    following::meeting::made(work, b)
+    meeting::made(work, b)
 }
 
 // Whether the answer to an ask stands at a place: the two leaders by the records before the question.
@@ -40,9 +40,9 @@ pub fn led(report: &[u8], at: usize, work: &[u16], q: Question) -> Passed
     requires { ⌜ Posed (now work) q × (at ≤ length (now report)) ⌝ }
     ensures { λ r. ⌜ RightAt (AskAnswer (now (work .entry)) q) (now (report .entry)) at r ⌝ }
 {
-    let age = following::meeting::age_after(work, q.joins, q.before);
-    let l = following::meeting::leader(work, age, q.s);
-    let m = following::meeting::leader(work, age, q.t);
+    let age = meeting::age_after(work, q.joins, q.before);
+    let l = meeting::leader(work, age, q.s);
+    let m = meeting::leader(work, age, q.t);
     if report_read::is_led(report, at, l, m) {
         Passed::To(at + 7)
     } else {

@@ -20,10 +20,11 @@ use Rattle.meaning.proofs.Walk.{walk-same, walk-by, walk-cong}
 use Rattle.table.specs.Map.{leftOf, rightOf, parentOf, ageOf, firstOf, secondOf, markOf, joinAt, recordsIn, Within}
 use Rattle.table.proofs.Frame.{seen-in, within-refl, within-trans, within-wider, within-set}
 use Rattle.table.specs.Past.{Past}
-use Rattle.following.specs.Meeting.{leaderAt, Met}
-use Rattle.following.specs.Tracing.{marked, Holds, Together, Crossed, Sided, Caused, Traced, Unmarked}
-use Rattle.following.proofs.Kept.{kept-parents, kept-ages, kept-records, kept-joins, kept-past, kept-holds, holds-fewer}
-use Rattle.following.proofs.Known.{join-one, join-two}
+use Rattle.meeting.specs.Meeting.{leaderAt, Met}
+use Rattle.meeting.specs.Holding.{Holds, marked}
+use Rattle.following.specs.Tracing.{Together, Crossed, Sided, Caused, Traced, Unmarked}
+use Rattle.meeting.proofs.Kept.{kept-parents, kept-ages, kept-records, kept-joins, kept-past, kept-holds, holds-fewer}
+use Rattle.meeting.proofs.Known.{join-one, join-two}
 
 -- The numbers of a join that is there are in their ranges.
 pub record Ranged (w : List ℕ) (b : ℕ) : Type 0 where

@@ -1,5 +1,1 @@
-pub mod Climb
-pub mod Kept
-pub mod Known
-pub mod Moments
 pub mod Crossing

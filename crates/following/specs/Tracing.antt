@@ -3,27 +3,15 @@
 use Prim.Native.Nat.{ℕ, suc, _≤_, _<_}
 use mathlib.Core.Path.{_≡_}
 use mathlib.Core.Logic.{_⊎_}
-use mathlib.Core.Bool.{Bool}
 use mathlib.Core.List.{List}
-use lib.Dec.{T, eqb}
+use lib.Dec.{T}
 use Rattle.meaning.specs.Joins.{Supported}
 use Rattle.meaning.specs.Walk.{Walked}
 use Rattle.meaning.specs.Needed.{Aim, Needed}
 use Rattle.table.specs.Map.{leftOf, rightOf, firstOf, secondOf, markOf, joinAt, recordsIn, Within}
 use Rattle.table.specs.Past.{Past}
-use Rattle.following.specs.Meeting.{leaderAt, Met}
-
--- The join of age a is taken into the reason.
-abbrev pub marked : List ℕ → ℕ → Bool
-marked w a = eqb (markOf w a) 1
-
--- The table holds the past of some records, with `limit` joins or more.
-pub record Holds (w : List ℕ) (limit : ℕ) : Type 0 where
-  pub tags : ℕ
-  pub len : ℕ
-  pub joins : ℕ
-  pub past : Past tags len w joins
-  pub reach : limit ≤ joins
+use Rattle.meeting.specs.Meeting.{leaderAt, Met}
+use Rattle.meeting.specs.Holding.{Holds, marked}
 
 -- s and t are tags that the joins older than `limit` bring together.
 pub record Together (w : List ℕ) (s t limit : ℕ) : Type 0 where

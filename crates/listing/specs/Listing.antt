@@ -7,7 +7,7 @@ use mathlib.Core.Logic.{_↔_}
 use mathlib.Core.List.{List, [], _∷_, _++_, List·Memᴰ}
 use Rattle.meaning.specs.Joins.{numbersOf, keep, used}
 use Rattle.table.specs.Map.{gather, listOf, headOf, joinAt, Within}
-use Rattle.following.specs.Tracing.{marked}
+use Rattle.meeting.specs.Holding.{marked}
 
 -- The first n numbers that wait.
 abbrev pub waitingIn : ℕ → List ℕ → List ℕ

@@ -3,9 +3,9 @@
 ghost use Rattle.job.specs.Items.{ask};
 ghost use Rattle.job.specs.Items.{explain as explains};
 ghost use Rattle.one_answer.specs.Facing.{Facing, Answered};
-use following::meeting::age_after;
-use following::meeting::leader;
 use meaning::Tag;
+use meeting::age_after;
+use meeting::leader;
 use reason_field::write_reason;
 use reasons::Answer;
 use reasons::explain;

@@ -15,7 +15,7 @@ use Rattle.table.specs.Map.{listOf, listIn, recAt, Loaded, Within}
 use Rattle.table.proofs.Frame.{seen-at, seen-within, gather-in, length-gather, within-refl, within-trans, within-wider, within-set}
 use Rattle.table.specs.Past.{Past}
 use Rattle.closure.specs.Closing.{Listed}
-use Rattle.following.proofs.Kept.{kept-loaded, kept-past}
+use Rattle.meeting.proofs.Kept.{kept-loaded, kept-past}
 use Rattle.listing.proofs.Gathering.{list-hit, list-miss}
 use Rattle.reasons.specs.Explaining.{Explained}
 use Rattle.reasons.specs.declared.Answer.the-variants.{Because}

@@ -25,7 +25,7 @@ use Rattle.listing.specs.Listing.{waitingIn}
 use Rattle.trimming.specs.Trimming.{Followed, Pruned}
 use Rattle.rising.specs.Rising.{Numbered, Sorted}
 use Rattle.listing.proofs.Gathering.{list-hit, list-miss}
-use Rattle.following.proofs.Kept.{kept-records, kept-loaded, kept-past}
+use Rattle.meeting.proofs.Kept.{kept-records, kept-loaded, kept-past}
 use Rattle.meaning.proofs.Tests.{is-not, is-so}
 use Rattle.reason_test.specs.declared.Question.{Question}
 use Rattle.reason_test.specs.Posed.{Posed, Deciding}

@@ -8,9 +8,9 @@ ghost use lib.ListN.{length};
 ghost use Rattle.table.specs.Map.{listIn};
 ghost use Rattle.reason_test.specs.Posed.{Deciding};
 ghost use Rattle.reason_test.specs.Lists.{Rising, Swapped, Arranged, Brought, Moved, Named, Entailed, NoneSpare, Sufficient};
-use following::meeting::wide;
 use meaning::RecordNo;
 use meaning::Tag;
+use meeting::wide;
 
 // A question at its moment: N, the numbers of all records and of all joins, the records before it, and its two tags.
 pub struct Question {

@@ -22,11 +22,12 @@ use Rattle.meaning.proofs.Exact.{reason-of, reason-same}
 use Rattle.table.specs.Map.{whenOf, firstOf, secondOf, listOf, listIn, recAt, recordsIn, joinAt, Loaded, Within}
 use Rattle.table.proofs.Frame.{length-gather, getD-gather, gather-in, within-refl, within-trans, within-wider}
 use Rattle.table.specs.Past.{Past, ageAfter}
-use Rattle.following.specs.Meeting.{Met}
-use Rattle.following.specs.Tracing.{marked, Holds, Together, Traced, Unmarked}
-use Rattle.following.proofs.Kept.{kept-records, kept-joins, kept-past, kept-loaded, kept-marks}
-use Rattle.following.proofs.Known.{join-one, join-two}
-use Rattle.following.proofs.Moments.{met-first, met-join, met-later, met-never, made-by}
+use Rattle.meeting.specs.Meeting.{Met}
+use Rattle.meeting.specs.Holding.{Holds, marked}
+use Rattle.following.specs.Tracing.{Together, Traced, Unmarked}
+use Rattle.meeting.proofs.Kept.{kept-records, kept-joins, kept-past, kept-loaded, kept-marks}
+use Rattle.meeting.proofs.Known.{join-one, join-two}
+use Rattle.meeting.proofs.Moments.{met-first, met-join, met-later, met-never, made-by}
 use Rattle.following.proofs.Crossing.{kept-leader, unmarked-supported}
 use Rattle.listing.specs.Listing.{waitingIn, Gathered}
 use Rattle.trimming.specs.Trimming.{Pruned, Followed}

@@ -8,7 +8,7 @@ use Rattle.meaning.specs.Following.{Rec, Follows, UpTo}
 use Rattle.meaning.specs.Reasons.{Reason}
 use Rattle.table.specs.Map.{whenOf, listIn, recordsIn, Within}
 use Rattle.table.specs.Past.{Past}
-use Rattle.following.specs.Meeting.{Met}
+use Rattle.meeting.specs.Meeting.{Met}
 use Rattle.reasons.specs.declared.Answer.{Answer}
 use Rattle.reasons.specs.declared.Answer.the-variants.{Because, Apart}
 

@@ -1,6 +1,6 @@
 // Reasons: for two tags that are equal by the records before a question, a list of record numbers that is a reason. Document 01,
-// "Reasons". Rests on following, which marks the joins between the tags, on listing, which lists their records, on sparing, which takes
-// out the spare ones, on rising, which puts the others in order, and on table.
+// "Reasons". Rests on meeting, which finds the newest join between the tags, on following, which marks that join and all it rests on, on
+// listing, which lists their records, on sparing, which takes out the spare ones, on rising, which puts the others in order, and on table.
 ghost use Prim.Native.Nat.{ℕ, _≤_, _<_};
 ghost use Rattle.reasons.specs.Explaining.{Question, Explained, Joining, Reasoned};
 use meaning::Tag;
@@ -24,8 +24,8 @@ fn reason(
     requires { ⌜ Joining size len joins (s .0) (t .0) b (now work) ⌝ }
     ensures { λ c. ⌜ Reasoned size len (s .0) (t .0) b (now (work .entry)) (now (work .exit)) c ⌝ }
 {
-    following::tracing::unmark_all(work, joins);
-    following::tracing::trace(work, s, t, b + 1);
+    following::unmark_all(work, joins);
+    following::trace(work, s, t, b + 1);
     let n = listing::list_marked(work, b + 1);
     let kept = sparing::prune(work, size, len, b + 1, n, s, t);
     rising::put_rising(work, len, kept)
@@ -47,11 +47,11 @@ pub fn explain(
     if s.0 == t.0 {
         return Answer::Because(0);
     }
-    let b = following::meeting::met(work, s, t);
+    let b = meeting::met(work, s, t);
     if b >= joins {
         return Answer::Apart;
     }
-    if following::meeting::made(work, b) > before {
+    if meeting::made(work, b) > before {
         return Answer::Apart;
     }
     Answer::Because(reason(work, size, len, joins, b, s, t))

@@ -15,7 +15,7 @@ use Rattle.job.specs.Reading.{fieldAt, bad, header, item, end, spanOf, itemsIn}
 use Rattle.job.specs.Standing.{Tagged, Met}
 use Rattle.job.proofs.Standing.{stands-item, stands-end, stands-not-bad, stands-not-header, stands-within}
 use Rattle.table.specs.Map.{Within}
-use Rattle.following.proofs.Kept.{kept-records, kept-past}
+use Rattle.meeting.proofs.Kept.{kept-records, kept-past}
 use Rattle.report.specs.Report.{numbers, field, Answers, Totalled, total, Sound, totals, passed, answered}
 use Rattle.report.specs.Fault.{Stands, FaultAt, past, behind, leaders, reason, closing, spare}
 use Rattle.report.proofs.Fits.{totalled-length}

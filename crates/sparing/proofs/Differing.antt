@@ -18,9 +18,9 @@ use Rattle.meaning.proofs.Needed.{unlike-unspared}
 use Rattle.table.specs.Map.{leftOf, rightOf, firstOf, secondOf, markOf, savedOf, listOf, listIn, joinAt, recordsIn, Within}
 use Rattle.table.proofs.Frame.{seen-at, seen-past, seen-within, gather-same, gather-in, within-refl, within-trans, within-wider, within-set}
 use Rattle.closure.specs.Closing.{Listed, Holding, Telling}
-use Rattle.following.specs.Tracing.{marked}
-use Rattle.following.proofs.Kept.{kept-left, kept-right, kept-first, kept-second, kept-records, kept-loaded}
-use Rattle.following.proofs.Known.{join-two, join-arguments}
+use Rattle.meeting.specs.Holding.{marked}
+use Rattle.meeting.proofs.Kept.{kept-left, kept-right, kept-first, kept-second, kept-records, kept-loaded}
+use Rattle.meeting.proofs.Known.{join-two, join-arguments}
 use Rattle.listing.specs.Listing.{waitingIn}
 use Rattle.trimming.specs.Trimming.{Copied, Pruned, Followed}
 use Rattle.sparing.specs.Comparing.{applied, Chosen, Firsts, Comparing, Compared}

@@ -13,7 +13,7 @@ use Rattle.meaning.specs.Joins.{Supported, used, tick, count}
 use Rattle.meaning.specs.Needed.{tags, Needed}
 use Rattle.table.specs.Map.{listOf, firstOf, secondOf, joinAt, recordsIn, Within}
 use Rattle.table.specs.Past.{Past}
-use Rattle.following.specs.Tracing.{marked}
+use Rattle.meeting.specs.Holding.{marked}
 use Rattle.listing.specs.Listing.{waitingIn}
 use Rattle.trimming.specs.Trimming.{Followed}
 

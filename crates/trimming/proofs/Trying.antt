@@ -14,7 +14,7 @@ use Rattle.table.specs.Map.{listOf, listIn, recordsIn, Within}
 use Rattle.table.proofs.Frame.{seen-within, gather-same, gather-in, in-gather, within-refl, within-trans, within-wider, within-set}
 use Rattle.closure.specs.Closing.{Listed, Saved}
 use Rattle.closure.proofs.Saving.{saved-more, saved-within}
-use Rattle.following.proofs.Kept.{kept-records, kept-loaded}
+use Rattle.meeting.proofs.Kept.{kept-records, kept-loaded}
 use Rattle.listing.specs.Listing.{waitingIn}
 use Rattle.trimming.specs.Trimming.{Copied, Left, Trying, Tried, Pruned, Followed}
 use Rattle.listing.proofs.Gathering.{list-hit, list-miss}

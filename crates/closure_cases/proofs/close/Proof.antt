@@ -2,7 +2,7 @@
 -- Assumes nothing.
 use borrow.Author.Needs.{needs}
 use native.Mathlib.Omega.{arith}
-use Rattle.following.proofs.Kept.{past-forest}
+use Rattle.meeting.proofs.Kept.{past-forest}
 use Rattle.closure_cases.proofs.close.Statement.{statement}
 use Rattle.closure_cases.proofs.close.Tie as tie
 

@@ -1,7 +1,7 @@
 -- `field_test::came` meets its contract: a tag is equal to itself without a record, and the newest join between two tags was made at the
 -- first record that makes them equal. Assumes nothing.
 use native.Mathlib.Omega.{arith}
-use Rattle.following.proofs.Kept.{past-forest}
+use Rattle.meeting.proofs.Kept.{past-forest}
 use Rattle.field_test.proofs.Right.{came-same, came-never, came-met}
 use Rattle.field_test.proofs.came.Statement.{statement}
 use Rattle.field_test.proofs.came.Tie as tie

@@ -9,9 +9,9 @@ use Rattle.meaning.specs.Following.{UpTo, Leader}
 use Rattle.table.specs.Map.{recordsIn}
 use Rattle.table.specs.Past.{Past, ageAfter}
 use Rattle.meaning.proofs.Tests.{true-or-false}
-use Rattle.following.specs.Meeting.{leaderAt}
-use Rattle.following.proofs.Kept.{past-forest}
-use Rattle.following.proofs.Moments.{leader-after, age-low}
+use Rattle.meeting.specs.Meeting.{leaderAt}
+use Rattle.meeting.proofs.Kept.{past-forest}
+use Rattle.meeting.proofs.Moments.{leader-after, age-low}
 use Rattle.field_test.proofs.Right.{led-right, led-wrong, pair-room}
 use Rattle.field_test.proofs.led.Statement.{statement}
 use Rattle.field_test.proofs.led.Tie as tie

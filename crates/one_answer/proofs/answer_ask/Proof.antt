@@ -7,9 +7,9 @@ use mathlib.Core.Path.{_∙_, ap}
 use mathlib.Core.List.{[], _∷_}
 use denote.Ref.{now}
 use Rattle.table.proofs.Frame.{within-refl}
-use Rattle.following.specs.Meeting.{leaderAt}
-use Rattle.following.proofs.Kept.{past-forest}
-use Rattle.following.proofs.Moments.{leader-after, age-low}
+use Rattle.meeting.specs.Meeting.{leaderAt}
+use Rattle.meeting.proofs.Kept.{past-forest}
+use Rattle.meeting.proofs.Moments.{leader-after, age-low}
 use Rattle.report.specs.Report.{numbers, field, led}
 use Rattle.report.proofs.Bytes.{length-field, length-numbers}
 use Rattle.one_answer.proofs.answer_ask.Statement.{statement}

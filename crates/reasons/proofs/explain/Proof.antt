@@ -2,7 +2,7 @@
 -- equal, so its record tells whether they are equal at the question. Assumes nothing.
 use borrow.Author.Needs.{needs}
 use native.Mathlib.Omega.{arith}
-use Rattle.following.proofs.Kept.{past-forest}
+use Rattle.meeting.proofs.Kept.{past-forest}
 use Rattle.reasons.proofs.Whole.{answer-same, answer-never, answer-later, answer-because, asks-reason}
 use Rattle.reasons.proofs.explain.Statement.{statement}
 use Rattle.reasons.proofs.explain.Tie as tie

@@ -1,27 +1,27 @@
--- `following::tracing::trace` and `following::tracing::take` meet their contracts: each call goes on below the age of the join that it crosses
+-- `following::trace` and `following::take` meet their contracts: each call goes on below the age of the join that it crosses
 -- or takes, and marks that join after all it rests on. The measure is the age, twice, so that the two may call each other. Assumes nothing.
 use Prim.Native.Nat.{ℕ, _+_, _*_, _<_}
 use native.Mathlib.Omega.{arith}
 use mathlib.Core.Path.{refl, sym, _∙_}
 use mathlib.Core.Logic.{⊎-elim}
-use Rattle.following.proofs.Kept.{past-forest}
+use Rattle.meeting.proofs.Kept.{past-forest}
 use Rattle.following.proofs.Crossing.{holds-ranged, crossed-of, together-near, together-far, kept-together, kept-still, caused-lefts, caused-rights, caused-one, caused-two, taken-known, traced-same, traced-cross}
 use Rattle.table.proofs.Frame.{within-trans}
 use borrow.Fn.Kinds.{In}
 use borrow.Fn.PlainCycle.{Measures, is, falls, and}
-use Rattle.following.proofs.tracing.take.Reads as take
-use Rattle.following.proofs.tracing.take.Kinds as take-kinds
-use Rattle.following.proofs.tracing.+take+trace.Lts-take as take-lts
-use Rattle.following.proofs.tracing.trace.Reads as trace
-use Rattle.following.proofs.tracing.trace.Kinds as trace-kinds
-use Rattle.following.proofs.tracing.+take+trace.Lts-trace as trace-lts
-use Rattle.following.proofs.meeting.met.Reads as met-reads
-use Rattle.following.proofs.tracing.causes_of.Reads as causes-of-reads
-use Rattle.following.proofs.tracing.sides.Reads as sides-reads
+use Rattle.following.proofs.take.Reads as take
+use Rattle.following.proofs.take.Kinds as take-kinds
+use Rattle.following.proofs.+take+trace.Lts-take as take-lts
+use Rattle.following.proofs.trace.Reads as trace
+use Rattle.following.proofs.trace.Kinds as trace-kinds
+use Rattle.following.proofs.+take+trace.Lts-trace as trace-lts
+use Rattle.meeting.proofs.met.Reads as met-reads
+use Rattle.following.proofs.causes_of.Reads as causes-of-reads
+use Rattle.following.proofs.sides.Reads as sides-reads
 use Rattle.table.proofs.mark.Reads as mark-reads
 use Rattle.table.proofs.put_mark.Reads as put-mark-reads
-use Rattle.following.proofs.tracing.+take+trace.{statement}
-use Rattle.following.proofs.tracing.+take+trace.Tie.{close}
+use Rattle.following.proofs.+take+trace.{statement}
+use Rattle.following.proofs.+take+trace.Tie.{close}
 
 abbrev μ-take : Measures 1 take-kinds.ps ℕ
 μ-take κs a = 2 * a .1 .0 + 2

@@ -6,7 +6,7 @@ ghost use Prim.Native.Nat.{ℕ, _≤_, _<_};
 ghost use lib.ListN.{length};
 ghost use Rattle.table.specs.Map.{whenOf};
 ghost use Rattle.table.specs.Past.{ageAfter};
-ghost use Rattle.following.specs.Meeting.{leaderAt, Forested, Met};
+ghost use Rattle.meeting.specs.Meeting.{leaderAt, Forested, Met};
 use meaning::Tag;
 
 // A two-byte number among the others.

@@ -1,4 +1,4 @@
--- `following::tracing::ends` meets its contract: the second record number tells the two kinds of join apart, as the definition does.
+-- `following::ends` meets its contract: the second record number tells the two kinds of join apart, as the definition does.
 -- Assumes nothing.
 use borrow.Author.Tests.{eq-eqb, ne-eqb}
 use mathlib.Core.Path.{_≡_, sym, _∙_}
@@ -9,8 +9,8 @@ use native.Mathlib.Omega.{arith}
 use Rattle.table.specs.Map.{leftOf, rightOf, resultOf, firstOf, secondOf}
 use Rattle.following.specs.Tracing.{Ended}
 use Rattle.following.proofs.Crossing.{holds-ranged}
-use Rattle.following.proofs.tracing.ends.Statement.{statement}
-use Rattle.following.proofs.tracing.ends.Tie as tie
+use Rattle.following.proofs.ends.Statement.{statement}
+use Rattle.following.proofs.ends.Tie as tie
 
 one : (w : List ℕ) (b x y : ℕ) → secondOf w b ≡ 0 → x ≡ leftOf w (firstOf w b) → y ≡ rightOf w (firstOf w b) → Ended w b x y
 one w b x y z p q = record { near-is = rw (eq-eqb (secondOf w b) 0 z) p; far-is = rw (eq-eqb (secondOf w b) 0 z) q }

@@ -1,4 +1,4 @@
--- `following::meeting::met` meets its contract: the two climb by the older link first, so that each stands on its leader of one age.
+-- `meeting::met` meets its contract: the two climb by the older link first, so that each stands on its leader of one age.
 -- The measure is the sum of the two tags, since links lead down. Assumes nothing.
 use borrow.Author.Needs.{needs}
 use mathlib.Core.Path.{_≡_}
@@ -7,10 +7,10 @@ use mathlib.Core.List.{List}
 use Prim.Native.Nat.{ℕ, _+_, _≤_, _<_}
 use native.Mathlib.Omega.{arith}
 use Rattle.table.specs.Map.{parentOf, ageOf}
-use Rattle.following.specs.Meeting.{Forested, Met}
-use Rattle.following.proofs.Climb.{Climbing, climb-start, climb-near, climb-far, climb-never, climb-end}
-use Rattle.following.proofs.meeting.met.Statement.{statement}
-use Rattle.following.proofs.meeting.met.Tie as tie
+use Rattle.meeting.specs.Meeting.{Forested, Met}
+use Rattle.meeting.proofs.Climb.{Climbing, climb-start, climb-near, climb-far, climb-never, climb-end}
+use Rattle.meeting.proofs.met.Statement.{statement}
+use Rattle.meeting.proofs.met.Tie as tie
 
 -- Where two climbers of the table stand.
 record Standing (w : List ℕ) (s t x y newest : ℕ) : Type 0 where

@@ -1,4 +1,4 @@
--- `following::meeting::age_after` meets its contract: the loop counts the joins below a, as the definition does.
+-- `meeting::age_after` meets its contract: the loop counts the joins below a, as the definition does.
 -- Assumes nothing.
 use borrow.Author.Needs.{needs}
 use mathlib.Core.Path.{_≡_, _∙_}
@@ -8,9 +8,9 @@ use native.Mathlib.Omega.{arith}
 use lib.Dec.{leb}
 use Rattle.meaning.specs.Joins.{count}
 use Rattle.table.specs.Map.{whenOf}
-use Rattle.following.proofs.Moments.{count-in, count-out}
-use Rattle.following.proofs.meeting.age_after.Statement.{statement}
-use Rattle.following.proofs.meeting.age_after.Tie as tie
+use Rattle.meeting.proofs.Moments.{count-in, count-out}
+use Rattle.meeting.proofs.age_after.Statement.{statement}
+use Rattle.meeting.proofs.age_after.Tie as tie
 
 abbrev Inv-loop : tie.InvT-loop
 Inv-loop work joins before n₀ a₀ n a = (a ≤ joins) × (n ≤ a) × (n ≡ count (λ i. leb (whenOf work i) before) a)
@@ -39,8 +39,8 @@ loop-again c =
     let h = whenOf (c .before .before .before .before .before .args .work .now) in
     let k = c .before .before .before .before .before .args .before in
     ⊎-elim
-    (λ w. (omega arith, omega arith, w .1 ∙ count-in h k (at .a) (at .n) (c .before .made .result) (c .before .made .ensures) (w .0 .taken) (at .inv .2)))
-    (λ w. (omega arith, omega arith, w .1 ∙ count-out h k (at .a) (at .n) (c .before .made .result) (c .before .made .ensures) (w .0 .left) (at .inv .2))) (c .if1 .came)
+    (λ w. (omega arith, omega arith, w .1 ∙ count-in h k (at .a) (at .n) (c .before .made .result) (c .before .made .ensures) (omega (arith, w .0 .taken)) (at .inv .2)))
+    (λ w. (omega arith, omega arith, w .1 ∙ count-out h k (at .a) (at .n) (c .before .made .result) (c .before .made .ensures) (omega (arith, w .0 .left)) (at .inv .2))) (c .if1 .came)
 
 returns : tie.Need-returns Inv-loop μ-loop
 returns c = let q : c .before .loop .a ≡ c .before .before .before .args .joins = omega arith in rw (← q) (c .before .loop .inv .2)

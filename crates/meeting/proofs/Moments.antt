@@ -19,8 +19,8 @@ use Rattle.meaning.proofs.Log.{linked-up}
 use Rattle.meaning.proofs.Exact.{settled-same, settled-leader}
 use Rattle.table.specs.Map.{parentOf, ageOf, whenOf, recordsIn}
 use Rattle.table.specs.Past.{Past, ageAfter, leaderAfter}
-use Rattle.following.specs.Meeting.{leaderAt, Met}
-use Rattle.following.proofs.Kept.{links-all}
+use Rattle.meeting.specs.Meeting.{leaderAt, Met}
+use Rattle.meeting.proofs.Kept.{links-all}
 
 -- One more join counted, or not.
 pub count-in : (h : ℕ → ℕ) (k a n r : ℕ) → r ≡ h a → r ≤ k → n ≡ count (λ i. leb (h i) k) a → n + 1 ≡ count (λ i. leb (h i) k) (a + 1)

@@ -14,8 +14,8 @@ use Rattle.table.specs.Map.{leftOf, rightOf, resultOf, parentOf, ageOf, firstOf
 use Rattle.table.proofs.Frame.{seen-within, within-wider}
 use Rattle.table.proofs.Kept.{lefts, rights, results, loaded-same, records-same}
 use Rattle.table.specs.Past.{Past}
-use Rattle.following.specs.Meeting.{Forested}
-use Rattle.following.specs.Tracing.{marked, Holds}
+use Rattle.meeting.specs.Meeting.{Forested}
+use Rattle.meeting.specs.Holding.{Holds, marked}
 
 -- The past, said of functions.
 record Bare (N len n : ℕ) (rs : List Rec) (e : ℕ → Join) (p g h : ℕ → ℕ) : Type 0 where

@@ -1,4 +1,4 @@
--- `following::meeting::leader` meets its contract: climbing a link older than the age keeps the leader, and where there is none the tag leads.
+-- `meeting::leader` meets its contract: climbing a link older than the age keeps the leader, and where there is none the tag leads.
 -- Assumes nothing.
 use borrow.Author.Needs.{needs}
 use mathlib.Core.Path.{_≡_, refl, sym, _∙_}
@@ -7,9 +7,9 @@ use mathlib.Core.List.{List}
 use native.Mathlib.Omega.{arith}
 use Rattle.table.specs.Map.{parentOf, ageOf}
 use Rattle.meaning.proofs.Forest.{root-stop, root-up}
-use Rattle.following.specs.Meeting.{leaderAt, Forested}
-use Rattle.following.proofs.meeting.leader.Statement.{statement}
-use Rattle.following.proofs.meeting.leader.Tie as tie
+use Rattle.meeting.specs.Meeting.{leaderAt, Forested}
+use Rattle.meeting.proofs.leader.Statement.{statement}
+use Rattle.meeting.proofs.leader.Tie as tie
 
 -- The links of the table, as the climb uses them.
 step : (w : List ℕ) (a x : ℕ) → Forested w → a ≤ 1000 → x < 1000 → ageOf w x < a → (parentOf w x < x) × (leaderAt w a (parentOf w x) ≡ leaderAt w a x)

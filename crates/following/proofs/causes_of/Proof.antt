@@ -1,9 +1,9 @@
--- `following::tracing::causes_of` meets its contract: a join that is there has record numbers within the columns.
+-- `following::causes_of` meets its contract: a join that is there has record numbers within the columns.
 -- Assumes nothing.
 use native.Mathlib.Omega.{arith}
 use Rattle.following.proofs.Crossing.{holds-ranged}
-use Rattle.following.proofs.tracing.causes_of.Statement.{statement}
-use Rattle.following.proofs.tracing.causes_of.Tie as tie
+use Rattle.following.proofs.causes_of.Statement.{statement}
+use Rattle.following.proofs.causes_of.Tie as tie
 
 first-requires : tie.Need-first-requires
 first-requires c κs = (c .before .pre .past .loaded .long, holds-ranged (c .before .pre) .age)

@@ -1,16 +1,16 @@
--- `following::tracing::sides` meets its contract: the end on the side of s is the one that has its leader by older joins.
+-- `following::sides` meets its contract: the end on the side of s is the one that has its leader by older joins.
 -- Assumes nothing.
 use mathlib.Core.Path.{_≡_, sym, _∙_, ap}
 use mathlib.Core.Logic.{_≢_}
 use mathlib.Core.List.{List}
 use Prim.Native.Nat.{ℕ}
 use native.Mathlib.Omega.{arith}
-use Rattle.following.specs.Meeting.{leaderAt}
+use Rattle.meeting.specs.Meeting.{leaderAt}
 use Rattle.following.specs.Tracing.{Crossed, Ended, Sided}
-use Rattle.following.proofs.Kept.{past-forest}
+use Rattle.meeting.proofs.Kept.{past-forest}
 use Rattle.following.proofs.Crossing.{holds-ranged, sided-over, sided-back}
-use Rattle.following.proofs.tracing.sides.Statement.{statement}
-use Rattle.following.proofs.tracing.sides.Tie as tie
+use Rattle.following.proofs.sides.Statement.{statement}
+use Rattle.following.proofs.sides.Tie as tie
 
 module _ (w : List ℕ) (s t b near far l m : ℕ) (X : Crossed w s t b) (e : Ended w b near far) (p : l ≡ leaderAt w b s) (q : m ≡ leaderAt w b near) where
   over : l ≡ m → Sided w s t b near far

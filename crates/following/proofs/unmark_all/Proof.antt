@@ -1,4 +1,4 @@
--- `following::tracing::unmark_all` meets its contract: each turn takes one mark off.
+-- `following::unmark_all` meets its contract: each turn takes one mark off.
 -- Assumes nothing.
 use borrow.Author.Needs.{needs}
 use mathlib.Core.Path.{_≡_}
@@ -7,8 +7,8 @@ use native.Mathlib.Omega.{arith}
 use native.Mathlib.Numerals.{add-one}
 use Rattle.following.specs.Tracing.{Unmarked}
 use Rattle.following.proofs.Crossing.{unmarked-start, unmarked-more}
-use Rattle.following.proofs.tracing.unmark_all.Statement.{statement}
-use Rattle.following.proofs.tracing.unmark_all.Tie as tie
+use Rattle.following.proofs.unmark_all.Statement.{statement}
+use Rattle.following.proofs.unmark_all.Tie as tie
 
 abbrev Inv-loop : tie.InvT-loop
 Inv-loop work₀ n a₀ work a = (a ≤ n) × Unmarked work₀ work a

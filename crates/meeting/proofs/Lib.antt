@@ -1,0 +1,4 @@
+pub mod Climb
+pub mod Kept
+pub mod Known
+pub mod Moments
