@@ -1,14 +1,14 @@
--- `lines::put_field` meets its contract, by the cases of the field: a record adds nothing, a question and the end their lines.
+-- `field_text::put_field` meets its contract, by the cases of the field: a record adds nothing, a question and the end their lines.
 -- Assumes nothing.
 use borrow.Author.Needs.{needs}
 use Prim.Native.Nat.{ℕ}
 use mathlib.Core.Path.{_≡_, _∙_}
 use mathlib.Core.List.{List}
 use Rattle.line_text.specs.Line.{askLine}
-use Rattle.lines.specs.Lines.{explainLine}
+use Rattle.field_text.specs.Fields.{explainLine}
 use Rattle.line_text.proofs.Puts.{put-as, put-nothing}
-use Rattle.lines.proofs.put_field.Statement.{statement}
-use Rattle.lines.proofs.put_field.Tie as tie
+use Rattle.field_text.proofs.put_field.Statement.{statement}
+use Rattle.field_text.proofs.put_field.Tie as tie
 
 -- The lines over equal numbers are one: as lemmas, since the search for them among all that is known takes seconds.
 ask-as : {s s′ t t′ l l′ m m′ : ℕ} → s ≡ s′ → t ≡ t′ → l ≡ l′ → m ≡ m′ → askLine s t l m ≡ askLine s′ t′ l′ m′

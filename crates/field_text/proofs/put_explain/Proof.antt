@@ -1,11 +1,11 @@
--- `lines::put_explain` meets its contract. Each arm puts the line that the definition gives for the kind.
+-- `field_text::put_explain` meets its contract. Each arm puts the line that the definition gives for the kind.
 -- Assumes nothing.
 use borrow.Author.Needs.{needs}
 use mathlib.Core.Path.{sym, _∙_}
 use Rattle.line_text.proofs.Puts.{put-as}
-use Rattle.lines.proofs.Parts.{explainLine-reason, explainLine-none}
-use Rattle.lines.proofs.put_explain.Statement.{statement}
-use Rattle.lines.proofs.put_explain.Tie as tie
+use Rattle.field_text.proofs.Parts.{explainLine-reason, explainLine-none}
+use Rattle.field_text.proofs.put_explain.Statement.{statement}
+use Rattle.field_text.proofs.put_explain.Tie as tie
 
 byte-requires : tie.Need-byte-requires
 byte-requires c κs = search needs

@@ -1,4 +1,4 @@
--- `lines::put_numbers` meets its contract. The invariant: the numbers before `p` are put, and those of the part from `p` on are still to come.
+-- `field_text::put_numbers` meets its contract. The invariant: the numbers before `p` are put, and those of the part from `p` on are still to come.
 -- The measure is what is left of the part.
 -- Assumes nothing.
 use borrow.Author.Needs.{needs}
@@ -9,12 +9,12 @@ use native.Mathlib.Omega.{arith}
 use denote.Ref.{now}
 use lib.Seq.{slice}
 use Rattle.line_text.specs.Line.{parted}
-use Rattle.lines.specs.Lines.{numbersIn}
+use Rattle.field_text.specs.Fields.{numbersIn}
 use Rattle.line_text.specs.Put.{Half}
 use Rattle.line_text.proofs.Puts.{put-length, put-as, half-none, half-more, half-done, half-as}
-use Rattle.lines.proofs.Parts.{numbers-next, numbers-none}
-use Rattle.lines.proofs.put_numbers.Statement.{statement}
-use Rattle.lines.proofs.put_numbers.Tie as tie
+use Rattle.field_text.proofs.Parts.{numbers-next, numbers-none}
+use Rattle.field_text.proofs.put_numbers.Statement.{statement}
+use Rattle.field_text.proofs.put_numbers.Tie as tie
 
 abbrev Inv-loop : tie.InvT-loop
 Inv-loop report from stop out₀ at p₀ next₀ out p next = (p ≤ stop) × Half (parted (numbersIn (slice from stop report))) (parted (numbersIn (slice p stop report))) out₀ at out next

@@ -1,9 +1,9 @@
--- `lines::passed` meets its contract, by the cases of the field: only a question has a field in the report.
+-- `field_text::passed` meets its contract, by the cases of the field: only a question has a field in the report.
 -- Assumes nothing.
 use borrow.Author.Needs.{needs}
 use native.Mathlib.Omega.{arith}
-use Rattle.lines.proofs.passed.Statement.{statement}
-use Rattle.lines.proofs.passed.Tie as tie
+use Rattle.field_text.proofs.passed.Statement.{statement}
+use Rattle.field_text.proofs.passed.Tie as tie
 
 enum-told : tie.Need-enum-told
 enum-told c = search needs

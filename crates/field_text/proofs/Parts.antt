@@ -11,7 +11,7 @@ use Rattle.job.specs.Reading.{numberAt}
 use borrow.Author.Tests.{eq-eqb, ne-eqb}
 use Rattle.line_text.specs.Line.{parted, line}
 use Rattle.line_text.proofs.Parted.{parted-append}
-use Rattle.lines.specs.Lines.{numbersIn, bodyOf, explainLine}
+use Rattle.field_text.specs.Fields.{numbersIn, bodyOf, explainLine}
 
 pub length-numbers : (bytes : List ℕ) → length (numbersIn bytes) ≡ length bytes / 2
 unfolding numbersIn

@@ -1,14 +1,14 @@
--- `lines::put_totals` meets its contract: the two numbers of the report's first field, as a line.
+-- `field_text::put_totals` meets its contract: the two numbers of the report's first field, as a line.
 -- Assumes nothing.
 use borrow.Author.Needs.{needs}
 use mathlib.Core.Path.{ap₂, _∙_}
 use mathlib.Core.List.{[], _∷_}
 use Prim.Native.Nat.{ℕ}
 use Rattle.line_text.specs.Line.{line}
-use Rattle.lines.specs.Lines.{totalsLine}
+use Rattle.field_text.specs.Fields.{totalsLine}
 use Rattle.line_text.proofs.Puts.{put-as}
-use Rattle.lines.proofs.put_totals.Statement.{statement}
-use Rattle.lines.proofs.put_totals.Tie as tie
+use Rattle.field_text.proofs.put_totals.Statement.{statement}
+use Rattle.field_text.proofs.put_totals.Tie as tie
 
 number-requires : tie.Need-number-requires
 number-requires c κs = search needs

@@ -1,4 +1,4 @@
--- `lines::put_reason` meets its contract. The part that is walked is the body as far as it is there, and half of its length is the number of its numbers.
+-- `field_text::put_reason` meets its contract. The part that is walked is the body as far as it is there, and half of its length is the number of its numbers.
 -- Assumes nothing.
 use borrow.Author.Needs.{needs}
 use mathlib.Core.Path.{_≡_}
@@ -8,12 +8,12 @@ use lib.ListN.{length}
 use denote.Ref.{now}
 use lib.Seq.{slice}
 use Rattle.line_text.specs.Line.{parted}
-use Rattle.lines.specs.Lines.{numbersIn, bodyOf}
+use Rattle.field_text.specs.Fields.{numbersIn, bodyOf}
 use Rattle.line_text.proofs.Puts.{put-as}
 use Rattle.line_text.proofs.Parted.{put-more, put-ended}
-use Rattle.lines.proofs.Parts.{body-slice, length-body}
-use Rattle.lines.proofs.put_reason.Statement.{statement}
-use Rattle.lines.proofs.put_reason.Tie as tie
+use Rattle.field_text.proofs.Parts.{body-slice, length-body}
+use Rattle.field_text.proofs.put_reason.Statement.{statement}
+use Rattle.field_text.proofs.put_reason.Tie as tie
 
 width-requires : tie.Need-width-requires
 width-requires c κs = search needs

@@ -1,11 +1,11 @@
--- `lines::byte` meets its contract. Past the end of a list its default is read, which is 0.
+-- `field_text::byte` meets its contract. Past the end of a list its default is read, which is 0.
 -- Assumes nothing.
 use borrow.Author.Needs.{needs}
 use mathlib.Core.Path.{sym}
 use denote.Ref.{now}
 use lib.ListN.{List·getD-eq-default}
-use Rattle.lines.proofs.byte.Statement.{statement}
-use Rattle.lines.proofs.byte.Tie as tie
+use Rattle.field_text.proofs.byte.Statement.{statement}
+use Rattle.field_text.proofs.byte.Tie as tie
 
 shared-slice-read-result : tie.Need-shared-slice-read-result
 shared-slice-read-result c = search needs
