@@ -20,7 +20,7 @@ use Rattle.report.specs.Report.{passed, answered, laid}
 use Rattle.report.proofs.Fits.{roomFor, answers-fits}
 use Rattle.report.proofs.Laid.{length-laid, laid-none, laid-then}
 use Rattle.meeting.proofs.Kept.{kept-past, kept-records}
-use Rattle.one_answer.specs.Facing.{Facing, Answered}
+use Rattle.ask_field.specs.Facing.{Facing, Answered}
 use Rattle.answers.specs.Asking.{itemSaid, isEnd, Asking, Meeting, Stepped, passes, asks, explains, Midway, Told}
 
 -- What a field of the job leads to, by what it is.

@@ -12,7 +12,7 @@ use Rattle.job.specs.Standing.{Stands, Job}
 use Rattle.table.specs.Map.{recordsIn, Loaded, Within}
 use Rattle.table.specs.Past.{Past}
 use Rattle.report.specs.Report.{Sound, laid}
-use Rattle.one_answer.specs.Facing.{Facing, Answered}
+use Rattle.ask_field.specs.Facing.{Facing, Answered}
 
 -- The job stands as N tags and its items, and the table holds the past of its records.
 pub record Asking (job w : List ℕ) (N len joins : ℕ) : Type 0 where

@@ -1,5 +1,5 @@
 // The questions of an accepted job, answered one after the other: each by the joins that were made before it, as a field of the
-// report. Document 01, "The job and the report". Rests on job, history, report and one_answer.
+// report. Document 01, "The job and the report". Rests on job, history, report, question, ask_field and explain_field.
 ghost use mathlib.Core.Path.{_≡_};
 ghost use Prim.Native.Nat.{ℕ, _+_, _*_, _-_, _≤_, _<_, min};
 ghost use lib.ListN.{length};
@@ -7,13 +7,13 @@ ghost use Rattle.job.specs.Items.{neededRoom};
 ghost use Rattle.job.specs.Reading.{itemsIn};
 ghost use Rattle.job.specs.Answer.{said};
 ghost use Rattle.answers.specs.Asking.{itemSaid, isEnd, Asking, Meeting, Stepped, Told, Ready, Responded};
+use ask_field::answer_ask;
+use explain_field::answer_explain;
 use history::close;
 use job::Field;
 use job::read;
 use job::span;
-use one_answer::Closed;
-use one_answer::answer_ask;
-use one_answer::answer_explain;
+use question::Closed;
 use report::write_totals;
 
 // How far the answers have come: the place in the job, the place in the room, and the records passed.

@@ -1,4 +1,3 @@
 pub mod Putting
-pub mod Parts
 pub mod Walking
 pub mod Size

@@ -16,9 +16,10 @@ use Rattle.job.specs.Reading.{byteAt, numberAt, reading}
 use Rattle.job.specs.Standing.{Stands, ends, next}
 use Rattle.job.proofs.Standing.{accepted-stands}
 use Rattle.line_text.specs.Line.{digits, parted, line, askLine}
-use Rattle.lines.specs.Lines.{numbersIn, bodyOf, explainLine, lineOf, totalsLine, linesOf, refusalLine}
+use Rattle.field_text.specs.Fields.{numbersIn, bodyOf, explainLine, lineOf, totalsLine}
+use Rattle.lines.specs.Lines.{linesOf, refusalLine}
 use Rattle.line_text.proofs.Digits.{digits-one, digits-more}
-use Rattle.lines.proofs.Parts.{length-numbers}
+use Rattle.field_text.proofs.Parts.{length-numbers}
 
 abbrev tens : ℕ → ℕ
 tens zero = 1

@@ -14,9 +14,9 @@ use Rattle.job.specs.Reading.{Field, item, end, bad, header, fieldAt, spanOf}
 use Rattle.job.specs.Answer.{spanOfField}
 use Rattle.job.specs.Standing.{Stands, ends, next}
 use Rattle.job.proofs.Standing.{stands-within}
-use Rattle.lines.specs.Lines.{lineOf, widthOf, totalsLine, linesOf}
+use Rattle.field_text.specs.Fields.{lineOf, widthOf, totalsLine, textAt, widthAt}
+use Rattle.lines.specs.Lines.{linesOf}
 use Rattle.line_text.specs.Put.{Put, Half}
-use Rattle.lines.specs.Told.{textAt, widthAt}
 use Rattle.line_text.proofs.Puts.{half-more, half-done, half-as}
 
 -- At a place of the job items stand, and their lines are still to be put; or the job has ended, and the text is whole.

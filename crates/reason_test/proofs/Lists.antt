@@ -27,8 +27,8 @@ use Rattle.rising.specs.Rising.{Numbered, Sorted}
 use Rattle.listing.proofs.Gathering.{list-hit, list-miss}
 use Rattle.meeting.proofs.Kept.{kept-records, kept-loaded, kept-past}
 use Rattle.meaning.proofs.Tests.{is-not, is-so}
-use Rattle.reason_test.specs.declared.Question.{Question}
-use Rattle.reason_test.specs.Posed.{Posed, Deciding}
+use Rattle.question.specs.declared.Question.{Question}
+use Rattle.question.specs.Posed.{Posed, Deciding}
 use Rattle.reason_test.specs.Lists.{Rising, Swap, Swapped, Arranged, Moved, Named, Serving, Entailed, NoneSpare, Sufficient}
 
 -- Rising, number by number.

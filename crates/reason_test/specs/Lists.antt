@@ -10,8 +10,8 @@ use Rattle.meaning.specs.Reasons.{Above, lastOf}
 use Rattle.table.specs.Map.{listOf, listIn, recordsIn, Within}
 use Rattle.closure.specs.Closing.{Listed}
 use Rattle.listing.specs.Listing.{waitingIn}
-use Rattle.reason_test.specs.declared.Question.{Question}
-use Rattle.reason_test.specs.Posed.{Posed}
+use Rattle.question.specs.declared.Question.{Question}
+use Rattle.question.specs.Posed.{Posed}
 
 -- The numbers rise strictly from above 0, and the last of them is k; 0 for the list that has none.
 pub record Rising (L : List ℕ) (k : ℕ) : Type 0 where

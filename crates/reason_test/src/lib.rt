@@ -1,26 +1,16 @@
 // Whether the numbers that stand in the table's list are a reason: they rise to the first k, they make s and t equal, and none of them can be
-// spared. Document 01, "Reasons". Rests on table, closure, trimming and rising.
+// spared. Document 01, "Reasons". Rests on table, question, closure, trimming and rising.
 ghost use mathlib.Core.Path.{_≡_};
 ghost use mathlib.Core.Logic.{_↔_};
 ghost use mathlib.Core.Bool.{true};
 ghost use Prim.Native.Nat.{_≤_, _<_};
 ghost use lib.ListN.{length};
 ghost use Rattle.table.specs.Map.{listIn};
-ghost use Rattle.reason_test.specs.Posed.{Deciding};
+ghost use Rattle.question.specs.Posed.{Deciding};
 ghost use Rattle.reason_test.specs.Lists.{Rising, Swapped, Arranged, Brought, Moved, Named, Entailed, NoneSpare, Sufficient};
-use meaning::RecordNo;
-use meaning::Tag;
 use meeting::wide;
-
-// A question at its moment: N, the numbers of all records and of all joins, the records before it, and its two tags.
-pub struct Question {
-    pub size: usize,
-    pub len: usize,
-    pub joins: usize,
-    pub before: usize,
-    pub s: Tag,
-    pub t: Tag,
-}
+use meaning::RecordNo;
+use question::Question;
 
 // Whether the first numbers of the list rise strictly from above 0 and end with `last`, which is 0 where there is none.
 pub fn rises(work: &[u16], count: usize, last: usize) -> bool

@@ -22,20 +22,21 @@ use Rattle.report.proofs.Fits.{totalled-length}
 use Rattle.report_read.proofs.Read.{holds-room}
 use Rattle.meaning.specs.declared.Tag.{Tag}
 use Rattle.recheck.specs.declared.Closed.{Closed}
-use Rattle.reason_test.specs.declared.Question.{Question}
+use Rattle.question.specs.declared.Question.{Question}
 use Rattle.recheck.specs.declared.Turn.{Turn}
 use Rattle.recheck.specs.declared.Judgement.{Judgement}
-use Rattle.field_test.specs.declared.Passed.{Passed}
-use Rattle.field_test.specs.declared.Passed.the-variants.{To, Wrong}
+use Rattle.ask_field.specs.declared.Passed.{Passed}
+use Rattle.ask_field.specs.declared.Passed.the-variants.{To, Wrong}
 use Rattle.recheck.specs.declared.Stand.{Stand}
 use Rattle.recheck.specs.declared.Turn.the-variants.{On, Done}
 use Rattle.recheck.specs.Judging.{Judgeable, Verdict, sound, fault}
-use Rattle.reason_test.specs.Posed.{Posed}
-use Rattle.field_test.specs.Right.{RightAt, to, wrong, AskAnswer, ExplainAnswer}
+use Rattle.question.specs.Posed.{Posed}
+use Rattle.ask_field.specs.Right.{RightAt, to, wrong, AskAnswer}
+use Rattle.explain_test.specs.Right.{ExplainAnswer}
 use Rattle.recheck.specs.Ended.{Ended, question}
 use Rattle.recheck.specs.Ended as r
 use Rattle.recheck.specs.Going.{Going, Turned, on, done, behind as turnBehind}
-use Rattle.field_test.proofs.Right.{found}
+use Rattle.ask_field.proofs.Right.{found}
 
 -- The table's data are kept by what writes only from the list on.
 pub judgeable-kept : {job w w′ : List ℕ} {N len joins idle e : ℕ} → Within 17003 e w w′ → Judgeable job w N len joins idle → Judgeable job w′ N len joins idle

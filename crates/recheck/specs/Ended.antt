@@ -7,7 +7,7 @@ use lib.ListN.{length}
 use Rattle.meaning.specs.declared.Tag.{Tag}
 use Rattle.report.specs.Report.{numbers, field}
 use Rattle.report_read.specs.Read.{Holds}
-use Rattle.reason_test.specs.declared.Question.{Question}
+use Rattle.question.specs.declared.Question.{Question}
 use Rattle.recheck.specs.declared.Closed.{Closed}
 use Rattle.recheck.specs.declared.Judgement.{Judgement}
 use Rattle.recheck.specs.declared.Judgement.the-variants as j

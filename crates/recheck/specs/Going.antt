@@ -12,8 +12,8 @@ use Rattle.report.specs.Report.{Sound}
 use Rattle.report.specs.Fault.{FaultAt}
 use Rattle.recheck.specs.declared.Judgement.{Judgement}
 use Rattle.recheck.specs.declared.Judgement.the-variants.{Fault}
-use Rattle.field_test.specs.declared.Passed.{Passed}
-use Rattle.field_test.specs.declared.Passed.the-variants.{To, Wrong}
+use Rattle.ask_field.specs.declared.Passed.{Passed}
+use Rattle.ask_field.specs.declared.Passed.the-variants.{To, Wrong}
 use Rattle.recheck.specs.declared.Stand.{Stand}
 use Rattle.recheck.specs.declared.Turn.{Turn}
 use Rattle.recheck.specs.declared.Turn.the-variants.{On, Done}

@@ -1,17 +1,18 @@
 // The judge of a report against its job, over the table that the closure left. Document 01, "What is lent, and each refusal": the
-// report fields are compared in order, and the judge stops at the first that is at fault. Rests on job, report_read, reason_test and field_test.
+// report fields are compared in order, and the judge stops at the first that is at fault. Rests on job, report_read, question, ask_field and
+// explain_test.
 ghost use mathlib.Core.Path.{_≡_};
 ghost use Prim.Native.Nat.{_≤_, _<_};
 ghost use lib.ListN.{length};
 ghost use Rattle.recheck.specs.Judging.{Judgeable, Judged};
 ghost use Rattle.recheck.specs.Ended.{question, Ended};
 ghost use Rattle.recheck.specs.Going.{Going, Advanced, behind};
-use field_test::Passed;
-use field_test::explained;
-use field_test::led;
+use ask_field::Passed;
+use ask_field::led;
+use explain_test::explained;
 use job::Field;
 use meaning::Tag;
-use reason_test::Question;
+use question::Question;
 
 // What is judged of a report: it is sound, or the first byte of the first field at fault.
 pub enum Judgement {

@@ -15,7 +15,7 @@ use Rattle.job.proofs.Standing.{accepted-stands}
 use Rattle.line_text.proofs.Puts.{put-place, put-length, half-none, half-as}
 use Rattle.lines.specs.Lines.{linesOf}
 use Rattle.line_text.specs.Put.{Put}
-use Rattle.lines.specs.Told.{textAt, widthAt}
+use Rattle.field_text.specs.Fields.{textAt, widthAt}
 use Rattle.lines.proofs.Walking.{Walked, underway, walk-on, walk-falls, walk-done, span-small}
 use Rattle.lines.proofs.put_items.Statement.{statement}
 use Rattle.lines.proofs.put_items.Tie as tie

@@ -6,7 +6,7 @@ use mathlib.Core.Path.{refl}
 use denote.Ref.{now}
 use Rattle.meaning.proofs.Tests.{true-or-false}
 use Rattle.recheck.specs.Ended.{right, spare, wrong}
-use Rattle.field_test.proofs.Right.{pair-room}
+use Rattle.ask_field.proofs.Right.{pair-room}
 use Rattle.recheck.proofs.ended.Statement.{statement}
 use Rattle.recheck.proofs.ended.Tie as tie
 

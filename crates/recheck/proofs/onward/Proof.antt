@@ -2,7 +2,7 @@
 -- Assumes nothing.
 use borrow.Author.Needs.{needs}
 use mathlib.Core.Path.{sym, ap}
-use Rattle.field_test.specs.declared.Passed.{Passed}
+use Rattle.ask_field.specs.declared.Passed.{Passed}
 use Rattle.recheck.specs.Going.{behind}
 use Rattle.recheck.proofs.onward.Statement.{statement}
 use Rattle.recheck.proofs.onward.Tie as tie
