@@ -1,5 +1,5 @@
 // The questions of an accepted job, answered one after the other: each by the joins that were made before it, as a field of the
-// report. Document 01, "The job and the report". Rests on job, history, report, question, ask_field and explain_field.
+// report. Document 01, "The job and the report". Rests on job, history, report_write, question, ask_field and explain_field.
 ghost use mathlib.Core.Path.{_≡_};
 ghost use Prim.Native.Nat.{ℕ, _+_, _*_, _-_, _≤_, _<_, min};
 ghost use lib.ListN.{length};
@@ -14,7 +14,7 @@ use job::Field;
 use job::read;
 use job::span;
 use question::Closed;
-use report::write_totals;
+use report_write::write_totals;
 
 // How far the answers have come: the place in the job, the place in the room, and the records passed.
 pub struct Spot {

@@ -1,5 +1,5 @@
 // The answer to an ask as a field of the report: written into the room, and tested where it stands. Both go by the joins that were made
-// before the question. Document 01, "The job and the report". Rests on question, meeting, report and report_read.
+// before the question. Document 01, "The job and the report". Rests on question, meeting, report_write and report_read.
 ghost use Prim.Native.Nat.{_≤_};
 ghost use lib.ListN.{length};
 ghost use Rattle.job.specs.Items.{ask};
@@ -11,7 +11,7 @@ use meeting::leader;
 use meaning::Tag;
 use question::Closed;
 use question::Question;
-use report::write_led;
+use report_write::write_led;
 use report_read::is_led;
 
 // The leaders of two tags, as a field at a place of the room; the place behind it.

@@ -1,5 +1,5 @@
 // The answer to an explain as a field of the report, by the joins that were made before the question. Document 01, "Reasons" and "The job and
-// the report". Rests on question, ask_field, reasons, report and reason_field.
+// the report". Rests on question, ask_field, reasons, report_write and reason_field.
 ghost use Rattle.job.specs.Items.{explain as explains};
 ghost use Rattle.ask_field.specs.Facing.{Facing, Answered};
 use meaning::Tag;
@@ -7,7 +7,7 @@ use question::Closed;
 use reason_field::write_reason;
 use reasons::Answer;
 use reasons::explain;
-use report::write_apart;
+use report_write::write_apart;
 
 // Why two tags are equal, or that they are not, as a field at a place of the room; the place behind it.
 pub fn answer_explain(

@@ -1,5 +1,5 @@
 // The numbers of a reason between a report and the table's list: written from there, read back, and compared. Document 01, "The job and the report".
-// Rests on report, report_read and table.
+// Rests on report_write, report_read and table.
 ghost use mathlib.Core.Path.{_≡_};
 ghost use mathlib.Core.Logic.{_↔_};
 ghost use mathlib.Core.Bool.{true};
@@ -11,8 +11,8 @@ ghost use Rattle.report_read.specs.Read.{Holds};
 ghost use Rattle.reason_field.specs.Read.{Placed, ListRead};
 use meaning::RecordNo;
 use report::BECAUSE;
-use report::put_front;
-use report::put_number;
+use report_write::put_front;
+use report_write::put_number;
 use report_read::number_in;
 
 // The record number at a place of the list goes to its place in a reason whose numbers begin at `at`.

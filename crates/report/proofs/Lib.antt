@@ -1,5 +1,4 @@
 pub mod Bytes
 pub mod Fits
 pub mod Laid
-pub mod Written
 pub mod Fault

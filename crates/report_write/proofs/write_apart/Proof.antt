@@ -1,9 +1,9 @@
--- `report::write_apart` meets its contract: the front that says no bytes is the whole field.
+-- `report_write::write_apart` meets its contract: the front that says no bytes is the whole field.
 -- Assumes nothing.
 use borrow.Author.Needs.{needs}
-use Rattle.report.proofs.write_apart.Statement.{statement}
-use Rattle.report.proofs.write_apart.Tie as tie
+use Rattle.report_write.proofs.write_apart.Statement.{statement}
+use Rattle.report_write.proofs.write_apart.Tie as tie
 use Rattle.report.specs.Report.{two, field, front}
 
 put-front-requires : tie.Need-put-front-requires
 put-front-requires c κs = search needs

@@ -1,12 +1,12 @@
--- `report::put_front` meets its contract: the kind is stored, and its length is laid behind it.
+-- `report_write::put_front` meets its contract: the kind is stored, and its length is laid behind it.
 -- Assumes nothing.
 use borrow.Author.Needs.{needs}
-use Rattle.report.proofs.put_front.Statement.{statement}
-use Rattle.report.proofs.put_front.Tie as tie
+use Rattle.report_write.proofs.put_front.Statement.{statement}
+use Rattle.report_write.proofs.put_front.Tie as tie
 use native.Mathlib.Omega.{arith}
 use lib.ListN.{length-set}
 use denote.Ref.{now}
-use Rattle.report.proofs.Written.{front-laid}
+use Rattle.report_write.proofs.Written.{front-laid}
 use mathlib.Core.Path.{_∙_}
 
 slice-write-room : tie.Need-slice-write-room

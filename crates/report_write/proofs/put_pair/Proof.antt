@@ -1,11 +1,11 @@
--- `report::put_pair` meets its contract: the front says 4 bytes, and the two numbers are laid behind it.
+-- `report_write::put_pair` meets its contract: the front says 4 bytes, and the two numbers are laid behind it.
 -- Assumes nothing.
 use borrow.Author.Needs.{needs}
-use Rattle.report.proofs.put_pair.Statement.{statement}
-use Rattle.report.proofs.put_pair.Tie as tie
+use Rattle.report_write.proofs.put_pair.Statement.{statement}
+use Rattle.report_write.proofs.put_pair.Tie as tie
 use native.Mathlib.Omega.{arith}
 use denote.Ref.{now}
-use Rattle.report.proofs.Written.{pair-laid}
+use Rattle.report_write.proofs.Written.{pair-laid}
 
 put-front-requires : tie.Need-put-front-requires
 put-front-requires c κs = search needs

@@ -1,14 +1,14 @@
--- `report::put_number` meets its contract: two stores, one behind the other, are the two bytes of the number.
+-- `report_write::put_number` meets its contract: two stores, one behind the other, are the two bytes of the number.
 -- Assumes nothing.
 use borrow.Author.Needs.{needs}
-use Rattle.report.proofs.put_number.Statement.{statement}
-use Rattle.report.proofs.put_number.Tie as tie
+use Rattle.report_write.proofs.put_number.Statement.{statement}
+use Rattle.report_write.proofs.put_number.Tie as tie
 use native.Mathlib.Omega.{arith}
 use native.Mathlib.Numerals.{add-one}
 use lib.ListN.{length-set}
 use denote.Ref.{now}
 use Rattle.report.specs.Report.{two}
 use Rattle.report.proofs.Laid.{laid-sets}
 
 cast-room : tie.Need-cast-room
 cast-room c = search needs
