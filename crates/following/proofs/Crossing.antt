@@ -13,7 +13,7 @@ use lib.ListN.{length, set}
 use Rattle.meaning.specs.Following.{Rec}
 use Rattle.meaning.specs.Joins.{Join, Linked, over, Supported, put}
 use Rattle.meaning.specs.Walk.{Walked}
-use Rattle.meaning.specs.Needed.{Crosses, Aim, tags, join, Needed, near-side, far-side, across, itself, lefts, rights}
+use Rattle.needed.specs.Needed.{Crosses, Aim, tags, join, Needed, near-side, far-side, across, itself, lefts, rights}
 use Rattle.meaning.proofs.Forest.{newest}
 use Rattle.meaning.proofs.Log.{linked-refl, linked-sym, linked-trans, linked-more, linked-up, put-hit, put-miss}
 use Rattle.meaning.proofs.Walk.{walk-same, walk-by, walk-cong}

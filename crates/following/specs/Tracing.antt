@@ -7,7 +7,7 @@ use mathlib.Core.List.{List}
 use lib.Dec.{T}
 use Rattle.meaning.specs.Joins.{Supported}
 use Rattle.meaning.specs.Walk.{Walked}
-use Rattle.meaning.specs.Needed.{Aim, Needed}
+use Rattle.needed.specs.Needed.{Aim, Needed}
 use Rattle.table.specs.Map.{leftOf, rightOf, firstOf, secondOf, markOf, joinAt, recordsIn, Within}
 use Rattle.table.specs.Past.{Past}
 use Rattle.meeting.specs.Meeting.{leaderAt, Met}

@@ -3,7 +3,7 @@
 ghost use mathlib.Core.Path.{_≡_};
 ghost use Prim.Native.Nat.{ℕ, suc, _+_, _≤_, _<_};
 ghost use lib.ListN.{length, set};
-ghost use Rattle.meaning.specs.Needed.{tags, join};
+ghost use Rattle.needed.specs.Needed.{tags, join};
 ghost use Rattle.table.specs.Map.{joinAt};
 ghost use Rattle.meeting.specs.Holding.{Holds};
 ghost use Rattle.following.specs.Tracing.{Together, Crossed, Ended, Sided, Caused, Traced, Unmarked};

@@ -13,6 +13,5 @@ pub mod Laws
 pub mod Cases
 pub mod Forest
 pub mod Walk
-pub mod Needed
 pub mod Table
 pub mod Tests

@@ -7,4 +7,3 @@ pub mod Totals
 pub mod Cases
 pub mod Forest
 pub mod Walk
-pub mod Needed

@@ -10,7 +10,7 @@ use lib.Dec.{eqb}
 use borrow.Author.Tests.{eq-eqb, ne-eqb}
 use Rattle.meaning.specs.Following.{Rec, eq, app, At}
 use Rattle.meaning.specs.Joins.{Why, by, cong, Join, Joined, Grounds, equation, applications}
-use Rattle.meaning.specs.Needed.{Arguments}
+use Rattle.needed.specs.Needed.{Arguments}
 use Rattle.meaning.proofs.Reference.{Small}
 use Rattle.table.specs.Map.{leftOf, rightOf, resultOf, firstOf, secondOf, recAt, recordsIn, joinAt, Loaded}
 use Rattle.table.proofs.Frame.{length-gather, getD-gather}

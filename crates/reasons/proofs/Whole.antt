@@ -14,9 +14,9 @@ use Rattle.meaning.specs.Reasons.{Reason}
 use Rattle.meaning.specs.Joins.{Join, Supported, numbersOf, keep, used, all}
 use Rattle.meaning.specs.Trim.{Trimmed}
 use Rattle.meaning.specs.Walk.{Walked}
-use Rattle.meaning.specs.Needed.{Aim, tags, Needed}
+use Rattle.needed.specs.Needed.{Aim, tags, Needed}
 use Rattle.meaning.proofs.Log.{linked-follows}
-use Rattle.meaning.proofs.Needed.{used-up}
+use Rattle.needed.proofs.Needed.{used-up}
 use Rattle.meaning.proofs.Reference.{Small}
 use Rattle.meaning.proofs.Exact.{reason-of, reason-same}
 use Rattle.table.specs.Map.{whenOf, firstOf, secondOf, listOf, listIn, recAt, recordsIn, joinAt, Loaded, Within}

@@ -12,9 +12,9 @@ use borrow.Author.Tests.{eq-eqb, ne-eqb}
 use lib.ListN.{length, set}
 use Rattle.meaning.specs.Following.{Follows, flip, Only}
 use Rattle.meaning.specs.Joins.{tick, count}
-use Rattle.meaning.specs.Needed.{Arguments, Unlike}
+use Rattle.needed.specs.Needed.{Arguments, Unlike}
 use Rattle.meaning.proofs.Count.{count-low, count-less, count-there}
-use Rattle.meaning.proofs.Needed.{unlike-unspared}
+use Rattle.needed.proofs.Needed.{unlike-unspared}
 use Rattle.table.specs.Map.{leftOf, rightOf, firstOf, secondOf, markOf, savedOf, listOf, listIn, joinAt, recordsIn, Within}
 use Rattle.table.proofs.Frame.{seen-at, seen-past, seen-within, gather-same, gather-in, within-refl, within-trans, within-wider, within-set}
 use Rattle.closure.specs.Closing.{Listed, Holding, Telling}

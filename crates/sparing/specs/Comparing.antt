@@ -10,7 +10,7 @@ use lib.Dec.{T, eqb}
 use lib.ListN.{set}
 use Rattle.meaning.specs.Following.{Follows, Without}
 use Rattle.meaning.specs.Joins.{Supported, used, tick, count}
-use Rattle.meaning.specs.Needed.{tags, Needed}
+use Rattle.needed.specs.Needed.{tags, Needed}
 use Rattle.table.specs.Map.{listOf, firstOf, secondOf, joinAt, recordsIn, Within}
 use Rattle.table.specs.Past.{Past}
 use Rattle.meeting.specs.Holding.{marked}

@@ -8,13 +8,13 @@ use mathlib.Core.Logic.{_≢_, _↔_, _⊎_, inl, inr}
 use mathlib.Core.Bool.{Bool, true, false}
 use mathlib.Core.List.{List, [], _∷_, List·Memᴰ, List·Memᴰ·append-cases, List·Memᴰ·cases-cons, List·Memᴰ·not-nil, List·Memᴰ·eq-of-singleton, Memᴰ·append-right}
 use lib.Dec.{T}
 use Rattle.meaning.specs.Following.{Rec, eq, app, At, Follows, same, flip, chain, given, congruent, Only, Without}
 use Rattle.meaning.specs.Joins.{Why, by, cong, Join, Linked, below, over, back, Grounds, equation, applications, Supported, Joined, numbersOf, keep, used}
-use Rattle.meaning.specs.Needed.{Crosses, Unlike, Aim, tags, join, Needed, near-side, far-side, across, itself, lefts, rights}
+use Rattle.needed.specs.Needed.{Crosses, Unlike, Aim, tags, join, Needed, near-side, far-side, across, itself, lefts, rights}
 use Rattle.meaning.proofs.Close.{more-of}
 use Rattle.meaning.proofs.Log.{linked-refl, linked-sym, linked-trans, linked-up, linked-more, linked-follows, grounds-more}
 use Rattle.meaning.proofs.Short.{decAmong}
 use Rattle.meaning.proofs.Decide.{decFollows, besides, without-test}
 
 -- A number stands for one record.
 at-one : {rs : List Rec} {k k′ : ℕ} {r r′ : Rec} → k ≡ k′ → At rs k r → At rs k′ r′ → r ≡ r′
