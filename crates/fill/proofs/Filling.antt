@@ -16,8 +16,9 @@ use Rattle.job.specs.Standing.{Stands}
 use Rattle.job.proofs.Standing.{accepted-stands}
 use Rattle.records.specs.declared.Record.{Record}
 use Rattle.records.specs.Table.{blank, placeOf}
-use Rattle.fill.specs.declared.Found.{Found}
-use Rattle.fill.specs.Filling.{First, Seeks, Filled}
+use Rattle.next_record.specs.declared.Found.{Found}
+use Rattle.next_record.specs.Seeking.{First, Seeks}
+use Rattle.fill.specs.Filling.{Filled}
 
 -- ---- lists
 module _ {A : Type 0} where

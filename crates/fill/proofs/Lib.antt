@@ -1,4 +1,3 @@
-pub mod Seeking
 pub mod Filling
 pub mod Loading
 pub mod Handed

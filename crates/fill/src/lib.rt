@@ -1,107 +1,18 @@
 // The way of the records: from the job's bytes into the record table, and from there into the work table's columns. Document 01, "The
-// job and the report" and "What is lent, and each refusal". Rests on job, records and table.
+// job and the report" and "What is lent, and each refusal". Rests on next_record, records and table.
 ghost use mathlib.Core.Path.{_≡_};
 ghost use Prim.Native.Nat.{_<_, _≤_};
 ghost use lib.ListN.{length};
-ghost use Rattle.job.specs.Reading.{fieldAt};
-ghost use Rattle.meaning.specs.Following.{eq, app};
-ghost use Rattle.records.specs.Table.{placeOf};
-ghost use Rattle.fill.specs.Filling.{foundAt, noRecord, Seeks, Filled};
+ghost use Rattle.fill.specs.Filling.{Filled};
 ghost use Rattle.fill.specs.Loading.{carry, Loadable, Carried};
 ghost use Rattle.fill.specs.Handing.{Handable, Handed};
-use job::Field;
-use job::read;
 use meaning::RecordNo;
-use meaning::Tag;
+use next_record::next_record;
 use records::Record;
 use records::fetch;
 use records::store;
 use table::put_application;
 use table::put_equation;
-
-// What the cursor found at a place: a question, which is passed over, or a record as it stands in the record table; and where the
-// next field stands.
-pub struct Found {
-    pub question: bool,
-    pub place: Record,
-    pub next: usize,
-}
-
-// How a = b stands in a place.
-fn equation(a: Tag, b: Tag) -> Record
-    ensures { λ r. ⌜ r ≡ placeOf (eq (a .0) (b .0)) ⌝ }
-{
-    Record {
-        kind: 1,
-        a: a,
-        b: b,
-        c: Tag(0),
-    }
-}
-
-// How f(a, b) = c stands in a place.
-fn application(a: Tag, b: Tag, c: Tag) -> Record
-    ensures { λ r. ⌜ r ≡ placeOf (app (a .0) (b .0) (c .0)) ⌝ }
-{
-    Record {
-        kind: 2,
-        a: a,
-        b: b,
-        c: c,
-    }
-}
-
-// No record was found.
-fn no_record(question: bool, next: usize) -> Found
-    ensures { λ r. ⌜ r ≡ noRecord question next ⌝ }
-{
-    Found {
-        question,
-        place: Record {
-            kind: 0,
-            a: Tag(0),
-            b: Tag(0),
-            c: Tag(0),
-        },
-        next,
-    }
-}
-
-// What stands at a place.
-fn look(job: &[u8], at: usize) -> Found
-    ensures { λ r. ⌜ r ≡ foundAt at (fieldAt (now (job .entry)) at) ⌝ }
-{
-    let field = read(job, at);
-    match field {
-        Field::Equation(a, b) => Found {
-            question: false,
-            place: equation(a, b),
-            next: at + 7,
-        },
-        Field::Application(a, b, c) => Found {
-            question: false,
-            place: application(a, b, c),
-            next: at + 9,
-        },
-        Field::Ask(_, _) => no_record(true, at + 7),
-        Field::Explain(_, _) => no_record(true, at + 7),
-        Field::Bad(_) => no_record(false, at),
-        Field::Header(_) => no_record(false, at),
-        Field::End => no_record(false, at),
-    }
-}
-
-// The first record at a place or behind the questions that stand there.
-pub fn next_record(job: &[u8], at: usize) -> Found
-    ensures { λ r. ⌜ Seeks (now (job .entry)) at r ⌝ }
-{
-    let mut f = look(job, at);
-    while f.question {
-        let next = f.next;
-        f = look(job, next);
-    }
-    f
-}
 
 // The first n records of the job come to the first n places of the record table.
 pub fn fill(job: &[u8], records: &mut [Record], n: usize)

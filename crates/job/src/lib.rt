@@ -1,9 +1,8 @@
 // The fields of a job: what its bytes say at a place. Document 01, "The job and the report" and "What is lent, and each
-// refusal". The field reader below is the only place on this side that makes a tag out of bytes or looks into one.
-// Rests on meaning.
+// refusal". The field reader below is the only place on this side that makes a tag out of bytes; what limits a field is
+// tested in limits. Rests on meaning.
 ghost use mathlib.Core.Path.{_≡_};
 ghost use Prim.Native.Nat.{_+_, _≤_};
-ghost use lib.Dec.{ltb};
 ghost use lib.ListN.{length};
 ghost use Rattle.job.specs.Reading.{numberAt, kindAt, laterKind, known, bodyLength, bodyAt, ofKind, fieldAt};
 ghost use Rattle.job.specs.Answer.{numberOf, kindOf, said, spanOfField};
@@ -133,13 +132,6 @@ fn tag(job: &[u8], at: usize) -> Tag
     ensures { λ r. ⌜ r .0 ≡ numberAt (now (job .entry)) at ⌝ }
 {
     Tag(number(job, at))
-}
-
-// Whether a tag is one of a job with so many.
-pub fn is_below(tag: Tag, size: u16) -> bool
-    ensures { λ r. ⌜ r ≡ ltb (tag .0) size ⌝ }
-{
-    tag.0 < size
 }
 
 // The body of a kind, at a place where all of it is there.

@@ -54,15 +54,15 @@ use Rattle.records.proofs.store as store′
 use Rattle.records.proofs.store.Symbol as store-def
 use Rattle.records.proofs.store.Symbol.{name as #records·store}
 use Rattle.records.proofs.store.Met as store-thm
-use Rattle.fill.specs.declared.Found.{Found}
-use Rattle.fill.specs.Filling.{Seeks}
+use Rattle.next_record.specs.declared.Found.{Found}
+use Rattle.next_record.specs.Seeking.{Seeks}
+use Rattle.next_record.proofs.Found as F
+use Rattle.next_record.proofs.Found.Laws as F′
+use Rattle.next_record.proofs.next_record as next
+use Rattle.next_record.proofs.next_record.Symbol as next-def
+use Rattle.next_record.proofs.next_record.Symbol.{name as #next-record·next-record}
+use Rattle.next_record.proofs.next_record.Met as next-thm
 use Rattle.fill.proofs.Filling.{Going, going-begin, going-on, going-done}
-use Rattle.fill.proofs.Found as F
-use Rattle.fill.proofs.Found.Laws as F′
-use Rattle.fill.proofs.next_record as next
-use Rattle.fill.proofs.next_record.Symbol as next-def
-use Rattle.fill.proofs.next_record.Symbol.{name as #fill·next-record}
-use Rattle.fill.proofs.next_record.Met as next-thm
 use Rattle.fill.proofs.fill.Key.{name as #fill·fill}
 use Rattle.fill.proofs.fill as f
 use Rattle.fill.proofs.fill.Statement as stated
@@ -231,7 +231,7 @@ module _ {M : Type 1} (𝓤 : URA M) (H : Heap 𝓤) (A : Atoms 𝓤) (W : Given
   Nearer-wf : WellFounded Nearer
   Nearer-wf = InvImage·wf (λ (i : Upto). n - i .0) (Nat·lt-wfRel .wf)
 
-  module _ (𝓣 : Tables 𝓤 H) (known-next : Triple 𝓤 (𝓣 .C #fill·next-record) (Next 𝓤 H A mem run)) (known-store : Triple 𝓤 (𝓣 .C #records·store) (Store 𝓤 H A mem run)) (l₀ l₁ l₂ l₃ l₄ l₅ l₆ l₇ l₈ l₉ l₁₀ : ℕ) where
+  module _ (𝓣 : Tables 𝓤 H) (known-next : Triple 𝓤 (𝓣 .C #next-record·next-record) (Next 𝓤 H A mem run)) (known-store : Triple 𝓤 (𝓣 .C #records·store) (Store 𝓤 H A mem run)) (l₀ l₁ l₂ l₃ l₄ l₅ l₆ l₇ l₈ l₉ l₁₀ : ℕ) where
     abbrev C : Calls 𝓤 H
     C = 𝓣 .C
 
@@ -331,7 +331,7 @@ module _ {M : Type 1} (𝓤 : URA M) (H : Heap 𝓤) (A : Atoms 𝓤) (W : Given
     loop-on : Sq W (Ctx ys 5 0) (runs C Λ En m.t-3 (atRet En Ends))
     loop-on = first ! $ blocks ! $ loops ! 𝓣 Nearer Nearer-wf At turns (0, (zero-le, (ys, (5, (lit< tt, going-begin (xj .now) n ys)))))
 
-  walk : (𝓣 : Tables 𝓤 H) → Triple 𝓤 (𝓣 .C #fill·next-record) (Next 𝓤 H A mem run) → Triple 𝓤 (𝓣 .C #records·store) (Store 𝓤 H A mem run)
+  walk : (𝓣 : Tables 𝓤 H) → Triple 𝓤 (𝓣 .C #next-record·next-record) (Next 𝓤 H A mem run) → Triple 𝓤 (𝓣 .C #records·store) (Store 𝓤 H A mem run)
       → ent 𝓤 (onEntry 𝓤 H A f.signature (κj, (κc, tt)) (qj, (qc, tt)) x at) (WpFn 𝓤 H (𝓣 .C) (𝓣 .Λ) code.function (vJ ∷ vC ys ∷ vint w64 n ∷ []) Ends)
   walk 𝓣 known-next known-store =
       qed W ((‵ (flft κj qj) ⊛ (‵ (flft κc qc) ⊛ ‵ ftrue)) ∷ ‵ (owns (ShrSlice (named 0) κj u8 ∷ MutSlice (named 1) κc R ∷ usize ∷ []) x at) ∷ []) ∵
@@ -350,7 +350,7 @@ module _ {M : Type 1} (𝓤 : URA M) (H : Heap 𝓤) (A : Atoms 𝓤) (W : Given
       loop-on 𝓣 known-next known-store l₀ l₁ l₂ l₃ l₄ l₅ l₆ l₇ l₈ l₉ l₁₀)))))))))))
 
 module _ {M : Type 1} (𝓤 : URA M) (H : Heap 𝓤) (A : Atoms 𝓤) (W : Given 𝓤 H A) (mem : Memory → SProp 𝓤) (run : Routine → Fun 𝓤) where
-  fill-walks : (𝓣 : Tables 𝓤 H) → Triple 𝓤 (𝓣 .C #fill·next-record) (Next 𝓤 H A mem run) → Triple 𝓤 (𝓣 .C #records·store) (Store 𝓤 H A mem run) → Walks 𝓤 H A f.ended stayed (WpFn 𝓤 H (𝓣 .C) (𝓣 .Λ) code.function) (f.clauses 𝓤 H A mem run)
+  fill-walks : (𝓣 : Tables 𝓤 H) → Triple 𝓤 (𝓣 .C #next-record·next-record) (Next 𝓤 H A mem run) → Triple 𝓤 (𝓣 .C #records·store) (Store 𝓤 H A mem run) → Walks 𝓤 H A f.ended stayed (WpFn 𝓤 H (𝓣 .C) (𝓣 .Λ) code.function) (f.clauses 𝓤 H A mem run)
   fill-walks 𝓣 known-next known-store = walked 𝓤 H A f.ended stayed (f.clauses 𝓤 H A mem run) (WpFn 𝓤 H (𝓣 .C) (𝓣 .Λ) code.function)
       (λ κs. (slice-vals, (slice-vals, (uint-vals w64, tt))))
       (λ κs. (shr-slice-tells (named 0) (κs .0) u8, (mut-slice-tells (named 1) (κs .1 .0) R, (uint-tells w64, tt))))
@@ -358,7 +358,7 @@ module _ {M : Type 1} (𝓤 : URA M) (H : Heap 𝓤) (A : Atoms 𝓤) (W : Given
       walk 𝓤 H A W mem run (κs .0) (κs .1 .0) (qs .0) (qs .1 .0) (a .0) (a .1 .0 .ptr .0) (a .1 .0 .ptr .1) (a .1 .0 .name) (a .1 .0 .now) (a .1 .1 .0)
       (are .0 .0 .1) (are .1 .0 .0 .1) (are .1 .1 .0 .1) enough 𝓣 known-next known-store))
 
-fill-meets : {M : Type 1} (𝓤 : URA M) (H : Heap 𝓤) (A : Atoms 𝓤) → Given 𝓤 H A → (mem : Memory → SProp 𝓤) (run : Routine → Fun 𝓤) (𝓣 : Tables 𝓤 H) → Triple 𝓤 (𝓣 .C #fill·next-record) (Next 𝓤 H A mem run) → Triple 𝓤 (𝓣 .C #records·store) (Store 𝓤 H A mem run)
+fill-meets : {M : Type 1} (𝓤 : URA M) (H : Heap 𝓤) (A : Atoms 𝓤) → Given 𝓤 H A → (mem : Memory → SProp 𝓤) (run : Routine → Fun 𝓤) (𝓣 : Tables 𝓤 H) → Triple 𝓤 (𝓣 .C #next-record·next-record) (Next 𝓤 H A mem run) → Triple 𝓤 (𝓣 .C #records·store) (Store 𝓤 H A mem run)
     → Meets 𝓤 H A f.signature (WpFn 𝓤 H (𝓣 .C) (𝓣 .Λ) code.function) (f.spec 𝓤 H A mem run)
 fill-meets 𝓤 H A W mem run 𝓣 known-next known-store =
     walk-meets 𝓤 H A f.ended stayed W (goes-none-slice 𝓤 H A W 2 (0 ∷ []) tt (plain (λ _. u8)) yes, (goes-slice 𝓤 H A W 2 1 tt (plain (λ _. R)), (goes-none 𝓤 H A W 2 (λ _. usize) yes (λ κs x f. refl), tt)))
@@ -370,5 +370,5 @@ fill-spec 𝓤 H 𝓜 𝓖 𝓡 =
     entered 𝓤 H (tripleOf 𝓤 H (𝓖 .A) f.signature (f.spec 𝓤 H (𝓖 .A) (𝓜 .mem) (𝓡 .run)))
     (tables 𝓤 H 𝓜 𝓡 code.env .C) (tables 𝓤 H 𝓜 𝓡 code.env .Λ) #fill·fill code.function (code.unfolded 𝓤 H 𝓜 𝓡)
     (fill-meets 𝓤 H (𝓖 .A) (givenOf 𝓤 H 𝓜 𝓖) (𝓜 .mem) (𝓡 .run) (tablesOf 𝓤 H 𝓜 (tables 𝓤 H 𝓜 𝓡 code.env))
-    (cited 𝓤 H (Next 𝓤 H (𝓖 .A) (𝓜 .mem) (𝓡 .run)) 𝓜 𝓡 code.env #fill·next-record next-def.routine code.calls-fill·next-record (next-thm.met 𝓤 H 𝓜 𝓖 𝓡))
+    (cited 𝓤 H (Next 𝓤 H (𝓖 .A) (𝓜 .mem) (𝓡 .run)) 𝓜 𝓡 code.env #next-record·next-record next-def.routine code.calls-next-record·next-record (next-thm.met 𝓤 H 𝓜 𝓖 𝓡))
     (cited 𝓤 H (Store 𝓤 H (𝓖 .A) (𝓜 .mem) (𝓡 .run)) 𝓜 𝓡 code.env #records·store store-def.routine code.calls-records·store (store-thm.met 𝓤 H 𝓜 𝓖 𝓡)))

@@ -13,8 +13,8 @@ use Rattle.job.specs.Standing.{Stands, Met}
 use Rattle.job.proofs.Reading.{field-whole}
 use Rattle.job.proofs.Standing.{stands-item, stands-end, stands-not-bad, stands-not-header}
 use Rattle.records.specs.Table.{placeOf}
-use Rattle.fill.specs.declared.Found.{Found}
-use Rattle.fill.specs.Filling.{foundAt, First, Seeks}
+use Rattle.next_record.specs.declared.Found.{Found}
+use Rattle.next_record.specs.Seeking.{foundAt, First, Seeks}
 
 -- How far the search has come: f is what stands at a place from which the same records stand ahead.
 pub record Seeking (job : List ℕ) (at : ℕ) (f : Found) : Type 0 where

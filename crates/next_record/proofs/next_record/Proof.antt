@@ -2,9 +2,9 @@
 -- falls is what is left of the job behind a question.
 -- Assumes nothing.
 use borrow.Author.Needs.{needs}
-use Rattle.fill.proofs.next_record.Statement.{statement}
-use Rattle.fill.proofs.next_record.Tie as tie
-use Rattle.fill.proofs.Seeking.{Seeking, left, seeking-begin, seeking-on, seeking-falls, seeking-done}
+use Rattle.next_record.proofs.next_record.Statement.{statement}
+use Rattle.next_record.proofs.next_record.Tie as tie
+use Rattle.next_record.proofs.Seeking.{Seeking, left, seeking-begin, seeking-on, seeking-falls, seeking-done}
 
 abbrev Inv-loop : tie.InvT-loop
 Inv-loop job at f₀ f = Seeking job at f

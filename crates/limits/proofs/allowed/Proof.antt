@@ -1,8 +1,8 @@
--- `job_read::allowed` meets its contract: count limit and numbers are tested in the order of `checked`.
+-- `limits::allowed` meets its contract: count limit and numbers are tested in the order of `checked`.
 -- Assumes nothing.
 use borrow.Author.Needs.{needs}
-use Rattle.job_read.proofs.allowed.Statement.{statement}
-use Rattle.job_read.proofs.allowed.Tie as tie
+use Rattle.limits.proofs.allowed.Statement.{statement}
+use Rattle.limits.proofs.allowed.Tie as tie
 use Rattle.job.specs.Reading.{orElse, checked}
 use mathlib.Core.Path.{ap, _∙_}
 

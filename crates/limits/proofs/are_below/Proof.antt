@@ -1,8 +1,8 @@
--- `job_read::are_below` meets its contract: the first answer decides which of the two is returned.
+-- `limits::are_below` meets its contract: the first answer decides which of the two is returned.
 -- Assumes nothing.
 use borrow.Author.Needs.{needs}
-use Rattle.job_read.proofs.are_below.Statement.{statement}
-use Rattle.job_read.proofs.are_below.Tie as tie
+use Rattle.limits.proofs.are_below.Statement.{statement}
+use Rattle.limits.proofs.are_below.Tie as tie
 
 is-below-requires : tie.Need-is-below-requires
 is-below-requires c κs = search needs

@@ -1,8 +1,8 @@
--- `job_read::all_below` meets its contract: the first answer decides which of the two is returned.
+-- `limits::all_below` meets its contract: the first answer decides which of the two is returned.
 -- Assumes nothing.
 use borrow.Author.Needs.{needs}
-use Rattle.job_read.proofs.all_below.Statement.{statement}
-use Rattle.job_read.proofs.all_below.Tie as tie
+use Rattle.limits.proofs.all_below.Statement.{statement}
+use Rattle.limits.proofs.all_below.Tie as tie
 
 are-below-requires : tie.Need-are-below-requires
 are-below-requires c κs = search needs

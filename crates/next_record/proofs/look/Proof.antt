@@ -2,8 +2,8 @@
 -- By the cursor's contract, arm by arm.
 -- Assumes nothing.
 use borrow.Author.Needs.{needs}
-use Rattle.fill.proofs.look.Statement.{statement}
-use Rattle.fill.proofs.look.Tie as tie
+use Rattle.next_record.proofs.look.Statement.{statement}
+use Rattle.next_record.proofs.look.Tie as tie
 use mathlib.Core.Path.{sym, ap, _∙_}
 use native.Mathlib.Omega.{arith}
 use denote.Ref.{now}

@@ -1,8 +1,8 @@
--- `job_read::is_numbered` meets its contract: each arm has its field, at which `numbered` computes.
+-- `limits::is_numbered` meets its contract: each arm has its field, at which `numbered` computes.
 -- Assumes nothing.
 use borrow.Author.Needs.{needs}
-use Rattle.job_read.proofs.is_numbered.Statement.{statement}
-use Rattle.job_read.proofs.is_numbered.Tie as tie
+use Rattle.limits.proofs.is_numbered.Statement.{statement}
+use Rattle.limits.proofs.is_numbered.Tie as tie
 
 enum-told : tie.Need-enum-told
 enum-told c = search needs

@@ -1,7 +1,7 @@
--- `job_read::or_else` meets its contract: the test decides which case of `orElse` holds.
+-- `limits::or_else` meets its contract: the test decides which case of `orElse` holds.
 -- Assumes nothing.
-use Rattle.job_read.proofs.or_else.Statement.{statement}
-use Rattle.job_read.proofs.or_else.Tie as tie
+use Rattle.limits.proofs.or_else.Statement.{statement}
+use Rattle.limits.proofs.or_else.Tie as tie
 
 returns : tie.Need-returns
 returns c = rw (c .if1 .taken)

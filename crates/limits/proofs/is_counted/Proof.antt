@@ -1,8 +1,8 @@
--- `job_read::is_counted` meets its contract: each arm has its field, at which `counted` computes.
+-- `limits::is_counted` meets its contract: each arm has its field, at which `counted` computes.
 -- Assumes nothing.
 use borrow.Author.Needs.{needs}
-use Rattle.job_read.proofs.is_counted.Statement.{statement}
-use Rattle.job_read.proofs.is_counted.Tie as tie
+use Rattle.limits.proofs.is_counted.Statement.{statement}
+use Rattle.limits.proofs.is_counted.Tie as tie
 
 enum-told : tie.Need-enum-told
 enum-told c = search needs

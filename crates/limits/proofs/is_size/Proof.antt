@@ -1,7 +1,7 @@
--- `job_read::is_size` meets its contract: the test that led to a return decides the first of the two.
+-- `limits::is_size` meets its contract: the test that led to a return decides the first of the two.
 -- Assumes nothing.
-use Rattle.job_read.proofs.is_size.Statement.{statement}
-use Rattle.job_read.proofs.is_size.Tie as tie
+use Rattle.limits.proofs.is_size.Statement.{statement}
+use Rattle.limits.proofs.is_size.Tie as tie
 use borrow.Author.Tests.{lt-ltb, le-ltb}
 
 returns : tie.Need-returns

@@ -1,0 +1,95 @@
+// The records of a job as the cursor meets them: the next one at a place, behind the questions that stand there, as it stands in the record
+// table. Document 01, "The job and the report". Rests on meaning, job and records.
+ghost use mathlib.Core.Path.{_≡_};
+ghost use Rattle.meaning.specs.Following.{eq, app};
+ghost use Rattle.job.specs.Reading.{fieldAt};
+ghost use Rattle.records.specs.Table.{placeOf};
+ghost use Rattle.next_record.specs.Seeking.{foundAt, noRecord, Seeks};
+use job::Field;
+use job::read;
+use meaning::Tag;
+use records::Record;
+
+// What the cursor found at a place: a question, which is passed over, or a record as it stands in the record table; and where the
+// next field stands.
+pub struct Found {
+    pub question: bool,
+    pub place: Record,
+    pub next: usize,
+}
+
+// How a = b stands in a place.
+fn equation(a: Tag, b: Tag) -> Record
+    ensures { λ r. ⌜ r ≡ placeOf (eq (a .0) (b .0)) ⌝ }
+{
+    Record {
+        kind: 1,
+        a: a,
+        b: b,
+        c: Tag(0),
+    }
+}
+
+// How f(a, b) = c stands in a place.
+fn application(a: Tag, b: Tag, c: Tag) -> Record
+    ensures { λ r. ⌜ r ≡ placeOf (app (a .0) (b .0) (c .0)) ⌝ }
+{
+    Record {
+        kind: 2,
+        a: a,
+        b: b,
+        c: c,
+    }
+}
+
+// No record was found.
+fn no_record(question: bool, next: usize) -> Found
+    ensures { λ r. ⌜ r ≡ noRecord question next ⌝ }
+{
+    Found {
+        question,
+        place: Record {
+            kind: 0,
+            a: Tag(0),
+            b: Tag(0),
+            c: Tag(0),
+        },
+        next,
+    }
+}
+
+// What stands at a place.
+fn look(job: &[u8], at: usize) -> Found
+    ensures { λ r. ⌜ r ≡ foundAt at (fieldAt (now (job .entry)) at) ⌝ }
+{
+    let field = read(job, at);
+    match field {
+        Field::Equation(a, b) => Found {
+            question: false,
+            place: equation(a, b),
+            next: at + 7,
+        },
+        Field::Application(a, b, c) => Found {
+            question: false,
+            place: application(a, b, c),
+            next: at + 9,
+        },
+        Field::Ask(_, _) => no_record(true, at + 7),
+        Field::Explain(_, _) => no_record(true, at + 7),
+        Field::Bad(_) => no_record(false, at),
+        Field::Header(_) => no_record(false, at),
+        Field::End => no_record(false, at),
+    }
+}
+
+// The first record at a place or behind the questions that stand there.
+pub fn next_record(job: &[u8], at: usize) -> Found
+    ensures { λ r. ⌜ Seeks (now (job .entry)) at r ⌝ }
+{
+    let mut f = look(job, at);
+    while f.question {
+        let next = f.next;
+        f = look(job, next);
+    }
+    f
+}
