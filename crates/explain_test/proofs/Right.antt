@@ -36,8 +36,10 @@ use Rattle.question.specs.Posed.{Deciding}
 use Rattle.ask_field.specs.Right.{RightAt, to, wrong}
 use Rattle.ask_field.proofs.Right.{found}
 use Rattle.explain_test.specs.Right.{Came, ExplainAnswer, Assuring, Explained, Reasoned, Known}
-use Rattle.reason_test.specs.Lists.{Rising, Named, Serving, Sufficient}
-use Rattle.reason_test.proofs.Lists.{rising-named, posed-kept}
+use Rattle.order_test.specs.Order.{Rising}
+use Rattle.order_test.proofs.Order.{rising-named}
+use Rattle.reason_test.specs.Lists.{Named, Serving, Sufficient}
+use Rattle.reason_test.proofs.Lists.{posed-kept}
 
 -- The first k.
 module _ {N len n : ℕ} {w : List ℕ} (P : Past N len w n) (R s t : ℕ) (l : R ≤ len) where

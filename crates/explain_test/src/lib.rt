@@ -1,13 +1,13 @@
 // Whether the right answer to an explain stands at a place of a report, over the table that the closure left. Document 01, "Reasons" and "The job
-// and the report". Rests on question, ask_field, report, report_read, reason_field, reasons and reason_test.
+// and the report". Rests on question, ask_field, report, report_read, reason_field, reasons, order_test and reason_test.
 ghost use Prim.Native.Nat.{_+_, _≤_};
 ghost use lib.ListN.{length};
 ghost use Rattle.table.specs.Map.{recordsIn};
 ghost use Rattle.question.specs.Posed.{Posed, Deciding};
 ghost use Rattle.explain_test.specs.Right.{Came, Assuring, Explained, Reasoned, Known};
 use ask_field::Passed;
+use order_test::rises;
 use question::Question;
-use reason_test::rises;
 use reason_test::serves;
 use reasons::Answer;
 use report_read::Front;

@@ -1,23 +1,21 @@
--- A list rises where each number is above the one before it, and then it names each record once. Exchanging two places keeps the set of
--- its numbers. Trimming takes no number out exactly if none can be spared. Assumes nothing.
-use Prim.Native.Nat.{ℕ, zero, suc, _+_, _≤_, _<_}
+-- Exchanging two places keeps the set of a list's numbers, and another order is the same list to every test. Trimming takes no number out
+-- exactly if none can be spared. Assumes nothing.
+use Prim.Native.Nat.{ℕ, _+_, _≤_, _<_}
 use native.Mathlib.Omega.{arith}
 use native.Mathlib.Numerals.{add-one}
 use native.Mathlib.Decide.{ℕ-discrete}
 use mathlib.Core.Path.{_≡_, refl, sym, _∙_, subst}
 use mathlib.Core.Logic.{_↔_, inl}
 use mathlib.Core.Bool.{Bool, true, false}
-use mathlib.Core.List.{List, [], _∷_, _++_, List·Memᴰ}
+use mathlib.Core.List.{List, List·Memᴰ}
 use lib.Dec.{eqb}
 use lib.ListN.{length, set}
 use Rattle.meaning.specs.Following.{Rec}
 use Rattle.meaning.specs.Joins.{put}
-use Rattle.meaning.specs.Reasons.{Above, lastOf}
 use Rattle.meaning.proofs.Close.{more-of}
 use Rattle.meaning.proofs.Log.{put-hit, put-miss}
-use Rattle.meaning.proofs.Rising.{above-all, above-snoc, last-snoc, take-out, rising-short}
+use Rattle.meaning.proofs.Rising.{take-out, rising-short}
 use Rattle.meaning.proofs.Short.{decAmong}
-use Rattle.meaning.proofs.Trim.{member-le-last}
 use Rattle.table.specs.Map.{listOf, listIn, recordsIn, gather, Within}
 use Rattle.table.proofs.Frame.{seen-in, seen-within, within-refl, within-trans, within-wider, within-set, length-gather, gather-same, gather-in, in-gather}
 use Rattle.closure.specs.Closing.{Listed, Entailing}
@@ -29,36 +27,7 @@ use Rattle.meeting.proofs.Kept.{kept-records, kept-loaded, kept-past}
 use Rattle.meaning.proofs.Tests.{is-not, is-so}
 use Rattle.question.specs.declared.Question.{Question}
 use Rattle.question.specs.Posed.{Posed, Deciding}
-use Rattle.reason_test.specs.Lists.{Rising, Swap, Swapped, Arranged, Moved, Named, Serving, Entailed, NoneSpare, Sufficient}
-
--- Rising, number by number.
-above-unsnoc : (m : ℕ) (L : List ℕ) (k : ℕ) → Above m (L ++ (k ∷ [])) → Above m L × (lastOf m L < k)
-above-unsnoc m [] k a = (tt, a .0)
-above-unsnoc m (x ∷ L) k a = let r = above-unsnoc x L k (a .1) in ((a .0, r .0), r .1)
-
-module _ (f : ℕ → ℕ) where
-  above-front : (n : ℕ) → Above 0 (gather f n) → (i : ℕ) → i < n → lastOf 0 (gather f i) < f i
-  above-front zero a i l = absurd (omega arith)
-  above-front (suc n) a i l = go (above-front n) (above-unsnoc 0 (gather f n) (f n) a) (ℕ-discrete i n)
-    where
-      go : (Above 0 (gather f n) → (j : ℕ) → j < n → lastOf 0 (gather f j) < f j) → Above 0 (gather f n) × (lastOf 0 (gather f n) < f n) → Dec (i ≡ n) → lastOf 0 (gather f i) < f i
-      go h r (yes q) = rw q (r .1)
-      go h r (no q) = h (r .0) i (omega arith)
-
-  pub rising-none : Rising (gather f 0) 0
-  rising-none = record { rising = tt; last = refl }
-
-  pub rising-more : (i top k : ℕ) → Rising (gather f i) top → k ≡ f i → top < k → Rising (gather f (i + 1)) k
-  rising-more i top k h e l = rw (add-one i, e) (record { rising = above-snoc 0 (gather f i) (f i) (h .rising) (omega (arith, h .last)); last = last-snoc 0 (gather f i) (f i) })
-
-  pub rising-stuck : (n i top k last : ℕ) → Rising (gather f i) top → k ≡ f i → k ≤ top → i < n → Rising (gather f n) last → ⊥
-  rising-stuck n i top k last h e l m g = omega (arith, above-front n (g .rising) i m, h .last)
-
-  -- Each number of a rising list is at most the last.
-  pub rising-named : (n k : ℕ) → Rising (gather f n) k → (i : ℕ) → i < n → (1 ≤ f i) × (f i ≤ k)
-  rising-named n k h i l =
-      let m = gather-in f n i l in
-      (omega (arith, above-all 0 (gather f n) (h .rising) (f i) m), omega (arith, member-le-last 0 (gather f n) (h .rising) (f i) m, h .last))
+use Rattle.reason_test.specs.Lists.{Swap, Swapped, Arranged, Moved, Named, Serving, Entailed, NoneSpare, Sufficient}
 
 -- Exchanging.
 pub swap-back : {f g : ℕ → ℕ} {i j : ℕ} → Swap f g i j → Swap g f i j

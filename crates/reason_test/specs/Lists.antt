@@ -1,4 +1,4 @@
--- The list of a reason in the table: whether it rises, and whether none of its numbers can be spared.
+-- The list of a reason in the table: its order, the records that it names, and whether none of its numbers can be spared.
 -- Assumes nothing.
 use Prim.Native.Nat.{ℕ, _≤_}
 use mathlib.Core.Path.{_≡_}
@@ -6,17 +6,12 @@ use mathlib.Core.Logic.{_≢_, _↔_}
 use mathlib.Core.List.{List, List·Memᴰ}
 use lib.ListN.{length}
 use Rattle.meaning.specs.Following.{Rec, Follows, Only, Without}
-use Rattle.meaning.specs.Reasons.{Above, lastOf}
+use Rattle.meaning.specs.Reasons.{Above}
 use Rattle.table.specs.Map.{listOf, listIn, recordsIn, Within}
 use Rattle.closure.specs.Closing.{Listed}
 use Rattle.listing.specs.Listing.{waitingIn}
 use Rattle.question.specs.declared.Question.{Question}
 use Rattle.question.specs.Posed.{Posed}
-
--- The numbers rise strictly from above 0, and the last of them is k; 0 for the list that has none.
-pub record Rising (L : List ℕ) (k : ℕ) : Type 0 where
-  pub rising : Above 0 L
-  pub last : lastOf 0 L ≡ k
 
 -- Places i and j of a list were exchanged.
 pub record Swap (f g : ℕ → ℕ) (i j : ℕ) : Type 0 where

@@ -1,35 +1,11 @@
-// Whether the numbers that stand in the table's list are a reason: they rise to the first k, they make s and t equal, and none of them can be
+// Whether the numbers that stand in the table's list, each once, suffice for a reason: they make s and t equal, and none of them can be
 // spared. Document 01, "Reasons". Rests on table, question, closure, trimming and rising.
-ghost use mathlib.Core.Path.{_≡_};
-ghost use mathlib.Core.Logic.{_↔_};
-ghost use mathlib.Core.Bool.{true};
 ghost use Prim.Native.Nat.{_≤_, _<_};
 ghost use lib.ListN.{length};
-ghost use Rattle.table.specs.Map.{listIn};
 ghost use Rattle.question.specs.Posed.{Deciding};
-ghost use Rattle.reason_test.specs.Lists.{Rising, Swapped, Arranged, Brought, Moved, Named, Entailed, NoneSpare, Sufficient};
-use meeting::wide;
+ghost use Rattle.reason_test.specs.Lists.{Swapped, Arranged, Brought, Moved, Named, Entailed, NoneSpare, Sufficient};
 use meaning::RecordNo;
 use question::Question;
-
-// Whether the first numbers of the list rise strictly from above 0 and end with `last`, which is 0 where there is none.
-pub fn rises(work: &[u16], count: usize, last: usize) -> bool
-    requires { ⌜ (32768 ≤ length (now work)) × (count ≤ 4000) ⌝ }
-    ensures { λ r. ⌜ (r ≡ true) ↔ Rising (listIn count (now (work .entry))) last ⌝ }
-{
-    let mut top: usize = 0;
-    let mut i = 0;
-    while i < count {
-        let r = table::listed(work, i);
-        let k = wide(r.0);
-        if k <= top {
-            return false;
-        }
-        top = k;
-        i += 1;
-    }
-    top == last
-}
 
 // Two places of the list exchange their numbers.
 fn swap(work: &mut [u16], i: usize, j: usize)
