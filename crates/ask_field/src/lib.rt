@@ -11,8 +11,8 @@ use meeting::age_after;
 use meeting::leader;
 use question::Closed;
 use question::Question;
-use report_write::write_led;
 use report_read::is_led;
+use report_write::write_led;
 
 // The leaders of two tags, as a field at a place of the room; the place behind it.
 pub fn answer_ask(

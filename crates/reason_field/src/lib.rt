@@ -11,9 +11,9 @@ ghost use Rattle.report_read.specs.Read.{Holds};
 ghost use Rattle.reason_field.specs.Read.{Placed, ListRead};
 use meaning::RecordNo;
 use report::BECAUSE;
+use report_read::number_in;
 use report_write::put_front;
 use report_write::put_number;
-use report_read::number_in;
 
 // The record number at a place of the list goes to its place in a reason whose numbers begin at `at`.
 fn put_listed(room: &mut [u8], at: usize, work: &[u16], i: usize)
