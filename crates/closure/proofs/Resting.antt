@@ -17,11 +17,12 @@ use Rattle.labels.specs.Parts.{Fresh, Preserved, Restored}
 use Rattle.table.proofs.Kept.{records-same}
 use Rattle.labels.proofs.Views.{few-room, fresh-labels, fresh-total}
 use Rattle.closure.specs.Closing.{Listed, Entailing, Saved, Holding}
-use Rattle.passes.specs.declared.Task.{Task}
-use Rattle.passes.specs.State.{State, Rested}
+use Rattle.uniting.specs.declared.Task.{Task}
+use Rattle.uniting.specs.State.{State}
+use Rattle.passes.specs.State.{Rested}
 use Rattle.closure.specs.State.{apart}
 use Rattle.passes.proofs.Rows.{valid-closed}
-use Rattle.passes.proofs.Views.{listed-same}
+use Rattle.uniting.proofs.Uniting.{listed-same}
 
 -- A list on its own.
 pub entails-start : {N len n : ℕ} {w w′ : List ℕ} {t : Task} → t ≡ apart N len n (leb n 60) → Listed N len n w → Fresh w w′ → State t w′ 0

@@ -17,11 +17,12 @@ use Rattle.labels.specs.Parts.{reach, width, nextIn, headIn, Cleared, Restored}
 use Rattle.labels.proofs.Chain.{chains-none, filled-none, below, chains-insert, filled-insert}
 use Rattle.table.proofs.Kept.{lefts, rights}
 use Rattle.labels.proofs.Views.{bucket-low, head-is, few-room, put-frame, put-heads, put-nexts}
-use Rattle.passes.specs.declared.Task.{Task}
+use Rattle.uniting.specs.declared.Task.{Task}
 use Rattle.closure.specs.Closing.{Listed, Telling}
 use Rattle.passes.specs.State.{keyOf, bucketIn, linkIn, Finding}
 use Rattle.closure.specs.State.{apart, Singled}
-use Rattle.passes.proofs.Views.{keys-same, listed-same}
+use Rattle.uniting.proofs.Uniting.{listed-same}
+use Rattle.passes.proofs.Views.{keys-same}
 
 pub alone-room : {N len n : ℕ} {t : Task} → t ≡ apart N len n (leb n 60) → n ≤ 4000 → t .places ≤ reach (t .few)
 alone-room {n = n} e l = rw e (few-room n l)

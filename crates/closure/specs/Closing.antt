@@ -10,7 +10,7 @@ use Rattle.meaning.specs.Labels.{Labels, classes}
 use Rattle.table.specs.Map.{leftOf, rightOf, listOf, markOf, savedOf, recordsIn, listIn, Within}
 use Rattle.labels.specs.Parts.{Own}
 -- What the calls want of the list.
-pub use Rattle.passes.specs.Listed.{Listed}
+pub use Rattle.uniting.specs.Listed.{Listed}
 
 -- Whether s and t are equal by exactly the records of the list; only the closure's scratch is written.
 pub record Entailing (N len n s t : ℕ) (w w′ : List ℕ) (answer : Bool) : Type 0 where

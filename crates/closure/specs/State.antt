@@ -6,7 +6,7 @@ use mathlib.Core.Bool.{Bool, false}
 use mathlib.Core.List.{List}
 use Rattle.labels.specs.Chain.{Chains, Filled}
 use Rattle.labels.specs.Parts.{reach, width, nextIn, headIn}
-use Rattle.passes.specs.declared.Task.{Task}
+use Rattle.uniting.specs.declared.Task.{Task}
 use Rattle.passes.specs.State.{keyOf}
 
 -- The first i places of the list stand in the chains, each with a key that no other of them has.

@@ -1,5 +1,5 @@
 // The closure of a list of records over the lent work table. Document 01, "Tags, records, following".
-// Rests on meaning (what follows), table (where things stand), labels (labels, saved labels and chains as they are written) and passes (the engine).
+// Rests on meaning (what follows), table (where things stand), labels (labels, saved labels and chains as they are written), uniting and passes (the engine).
 //
 // `entails` closes a given list and keeps nothing. `hold` does so too and saves the labels, and `resume` begins with those, for a list that is a
 // little longer. `distinct` compares argument labels of those that are saved.
@@ -12,7 +12,7 @@ ghost use Rattle.table.specs.Map.{listIn, Within};
 ghost use Rattle.closure.specs.State.{apart, Singled};
 ghost use Rattle.closure.specs.Closing.{Listed, Entailing, Saved, Holding, Telling};
 use meaning::Tag;
-use passes::Task;
+use uniting::Task;
 
 // What the closure of a list told: how many joins it took, and whether two tags are equal by it.
 pub struct Held {

@@ -19,7 +19,7 @@ use Rattle.closure.specs.Closing.{Listed, Entailing}
 use Rattle.history.specs.Closing.{Closing}
 use Rattle.closure_cases.specs.Desk.{May}
 use Rattle.table.proofs.Kept.{loaded-same}
-use Rattle.passes.proofs.Views.{listed-same}
+use Rattle.uniting.proofs.Uniting.{listed-same}
 
 -- One record more is loaded: the list is kept.
 record-listed : {N len n : ℕ} {w w′ : List ℕ} → Listed N len n w → Loaded N (len + 1) w′ × Within 0 12003 w w′ → Listed N (len + 1) n w′

@@ -14,7 +14,7 @@ use Rattle.table.proofs.Frame.{length-gather, getD-gather, gather-in, in-gather
 use Rattle.labels.specs.Chain.{look}
 use Rattle.labels.specs.Parts.{width, nextIn, headIn, Readable}
 use Rattle.labels.proofs.Rows.{left-small, right-small, result-small, at-rec, eq-parts, app-parts}
-use Rattle.passes.specs.Listed.{Listed}
+use Rattle.uniting.specs.Listed.{Listed}
 use Rattle.passes.specs.State.{eqnOf, keyOf, resOf, Valid}
 
 module _ {N len n : ℕ} {w : List ℕ} (h : Listed N len n w) (i : ℕ) (l : i < n) where

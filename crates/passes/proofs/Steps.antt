@@ -4,8 +4,8 @@
 use Prim.Native.Nat.{ℕ, suc, _+_, _-_, _%_, _≤_, _<_}
 use native.Mathlib.Omega.{arith}
 use native.Mathlib.Numerals.{add-one}
-use mathlib.Core.Path.{_≡_, refl, sym, ap, _∙_, fun-ext}
-use mathlib.Core.Logic.{_≢_, inl}
+use mathlib.Core.Path.{_≡_, sym, ap, _∙_, fun-ext}
+use mathlib.Core.Logic.{inl}
 use mathlib.Core.Bool.{Bool, true, false, true≢false}
 use mathlib.Core.List.{List}
 use lib.Dec.{eqb}
@@ -20,28 +20,11 @@ use Rattle.labels.proofs.Chain.{chains-none, filled-none, chains-up, below, loo
 use Rattle.labels.proofs.Rows.{split-key}
 use Rattle.table.proofs.Kept.{results}
 use Rattle.labels.proofs.Views.{bucket-low, width-most, head-is, cut-falls, seek-cut, put-frame, put-heads, put-nexts}
-use Rattle.passes.specs.declared.Task.{Task}
-use Rattle.passes.specs.State.{State, Valid, Joining, Joined, Meeting, Met, Stepping, Stepped, Unifying, Seeking, Finding, Passed, eqnOf, keyOf, resOf, bucketIn, linkIn}
+use Rattle.uniting.specs.declared.Task.{Task}
+use Rattle.uniting.specs.State.{State, Meeting, Met}
+use Rattle.passes.specs.State.{Valid, Stepping, Stepped, Unifying, Seeking, Finding, Passed, eqnOf, keyOf, resOf, bucketIn, linkIn}
 use Rattle.passes.proofs.Rows.{row-left, row-right, row-result, row-in, row-at}
 use Rattle.passes.proofs.Views.{chains-state, chains-kept, eqns-same, keys-same, ress-same, equals-same}
-
--- What `meet` asks and tells: two tags that are equal by the list's records have one label, or labels that are due to be joined.
-module _ {t : Task} {w : List ℕ} {x y n : ℕ} (m : Meeting t w x y n) where
-  pub meet-stay : labelOf w x ≡ labelOf w y → Met t w x y n w n
-  meet-stay e = record { state = m .state; kept = within-refl w; heads = refl; nexts = refl; more = omega arith; level = λ q. (refl, e) }
-
-  pub meet-due : (a b : ℕ) → a ≡ labelOf w x → b ≡ labelOf w y → a ≢ b → Joining t w a b
-  meet-due a b ea eb d = let s = m .state in record {
-    listed = s .listed;
-    own = s .own;
-    tags = (rw ea (omega (arith, s .labels .low x, m .tags)), rw eb (omega (arith, s .labels .low y, m .tags)));
-    labels = (rw ea (s .labels .flat x), rw eb (s .labels .flat y));
-    apart = d;
-    follows = rw (ea, eb) (chain (flip (s .sound x)) (chain (m .follows) (s .sound y)));
-  }
-
-  pub meet-joined : {w′ : List ℕ} → Joined t w w′ → Met t w x y n w′ (n + 1)
-  meet-joined j = record { state = rw add-one (j .state n (m .state)); kept = j .kept; heads = j .heads; nexts = j .nexts; more = omega arith; level = λ e. absurd (omega arith) }
 
 module _ {t : Task} {w : List ℕ} {i n : ℕ} (s : Stepping t w i n) where
   -- After two tags have met for place i.

@@ -1,4 +1,4 @@
--- What the closure reads off the table after a part of it was written: a frame keeps the list and the state that stand outside it.
+-- What the closure reads off the table after its chains were written: the list, the labels and the state stand outside them.
 -- Assumes nothing.
 use Prim.Native.Nat.{ℕ, _<_}
 use native.Mathlib.Omega.{arith}
@@ -8,14 +8,11 @@ use mathlib.Core.Bool.{true}
 use mathlib.Core.List.{List}
 use Rattle.table.specs.Map.{leftOf, rightOf, listOf, labelOf, Within}
 use Rattle.table.proofs.Frame.{seen-within, within-wider}
-use Rattle.table.proofs.Kept.{lefts, rights, results, loaded-same}
-use Rattle.passes.specs.Listed.{Listed}
-use Rattle.passes.specs.declared.Task.{Task}
-use Rattle.passes.specs.State.{State, eqnOf, keyOf, resOf}
-
--- The columns are kept.
-pub listed-same : {end N len n : ℕ} {w w′ : List ℕ} → Within 12003 end w w′ → listOf w′ ≡ listOf w → Listed N len n w → Listed N len n w′
-listed-same f e h = record { loaded = loaded-same f (h .loaded); short = h .short; named = rw e (h .named) }
+use Rattle.table.proofs.Kept.{lefts, rights, results}
+use Rattle.uniting.specs.declared.Task.{Task}
+use Rattle.uniting.specs.State.{State}
+use Rattle.uniting.proofs.Uniting.{listed-same}
+use Rattle.passes.specs.State.{eqnOf, keyOf, resOf}
 
 -- A change of the chains alone.
 module _ {w w′ : List ℕ} (f : Within 22003 30096 w w′) where

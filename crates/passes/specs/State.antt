@@ -1,18 +1,16 @@
 -- Machinery: what holds of the table while the closure runs. No meaning rests on it.
 -- Assumes nothing.
-use Prim.Native.Nat.{ℕ, suc, _+_, _%_, _≤_, _<_}
+use Prim.Native.Nat.{ℕ, suc, _%_, _≤_, _<_}
 use mathlib.Core.Path.{_≡_}
-use mathlib.Core.Logic.{_≢_}
 use mathlib.Core.Bool.{Bool, true, false}
 use mathlib.Core.List.{List}
 use lib.Dec.{eqb}
-use Rattle.meaning.specs.Following.{Follows, Only}
-use Rattle.meaning.specs.Labels.{Labels, classes}
-use Rattle.table.specs.Map.{leftOf, rightOf, resultOf, listOf, labelOf, recordsIn, listIn, Within}
+use Rattle.table.specs.Map.{leftOf, rightOf, resultOf, listOf, labelOf, Within}
 use Rattle.labels.specs.Chain.{look, Chains, Filled}
-use Rattle.labels.specs.Parts.{Own, keyIn, reach, width, nextTo, nextIn, headIn}
-use Rattle.passes.specs.Listed.{Listed}
-use Rattle.passes.specs.declared.Task.{Task}
+use Rattle.labels.specs.Parts.{keyIn, reach, width, nextTo, nextIn, headIn}
+use Rattle.uniting.specs.Listed.{Listed}
+use Rattle.uniting.specs.State.{State}
+use Rattle.uniting.specs.declared.Task.{Task}
 
 -- By place of the list: whether the record is an equation, both argument labels as one number, the result's label.
 abbrev pub eqnOf : List ℕ → ℕ → Bool
@@ -31,15 +29,6 @@ bucketIn t w i = keyOf w i % width (t .few)
 abbrev pub linkIn : Task → List ℕ → ℕ → ℕ
 linkIn t w i = look (width (t .few)) (keyOf w) (headIn (t .few) w) (nextIn (t .few) w) (keyOf w i)
 
--- After n joins: labels lead within what follows from the list, and each join made one class fewer.
-pub record State (t : Task) (w : List ℕ) (n : ℕ) : Type 0 where
-  pub listed : Listed (t .size) (t .len) (t .places) w
-  pub room : t .places ≤ reach (t .few)
-  pub labels : Labels (labelOf w)
-  pub sound : (x : ℕ) → Follows (Only (recordsIn (t .len) w) (listIn (t .places) w)) x (labelOf w x)
-  pub total : n + classes (labelOf w) (t .size) ≡ t .size
-  pub own : Own (t .size) (labelOf w)
-
 -- The chains hold places below i; and with the labels as they are, no two of the first i places contradict them.
 abbrev pub Chained : Bool → List ℕ → ℕ → Type 0
 Chained few w i = Chains (eqnOf w) (headIn few w) (nextIn few w) i
@@ -47,36 +36,6 @@ Chained few w i = Chains (eqnOf w) (headIn few w) (nextIn few w) i
 pub record Valid (few : Bool) (w : List ℕ) (i : ℕ) : Type 0 where
   pub filled : Filled (width few) (eqnOf w) (keyOf w) (resOf w) (headIn few w) (nextIn few w) i
   pub equal : (j : ℕ) → j < i → eqnOf w j ≡ true → labelOf w (leftOf w (listOf w j)) ≡ labelOf w (rightOf w (listOf w j))
-
--- Two labels are to become one: those tags are equal by the list's records.
-pub record Joining (t : Task) (w : List ℕ) (a b : ℕ) : Type 0 where
-  pub listed : Listed (t .size) (t .len) (t .places) w
-  pub own : Own (t .size) (labelOf w)
-  pub tags : (a < t .size) × (b < t .size)
-  pub labels : (labelOf w a ≡ a) × (labelOf w b ≡ b)
-  pub apart : a ≢ b
-  pub follows : Follows (Only (recordsIn (t .len) w) (listIn (t .places) w)) a b
-
--- One more join was made; the chains are as they were.
-pub record Joined (t : Task) (w w′ : List ℕ) : Type 0 where
-  pub state : (n : ℕ) → State t w n → State t w′ (suc n)
-  pub kept : Within 21003 30096 w w′
-  pub heads : headIn (t .few) w′ ≡ headIn (t .few) w
-  pub nexts : nextIn (t .few) w′ ≡ nextIn (t .few) w
-
--- Two tags that are equal by the list's records are to get one label; and did, by a join or since they had it.
-pub record Meeting (t : Task) (w : List ℕ) (x y n : ℕ) : Type 0 where
-  pub state : State t w n
-  pub tags : (x < t .size) × (y < t .size)
-  pub follows : Follows (Only (recordsIn (t .len) w) (listIn (t .places) w)) x y
-
-pub record Met (t : Task) (w : List ℕ) (x y n : ℕ) (w′ : List ℕ) (n′ : ℕ) : Type 0 where
-  pub state : State t w′ n′
-  pub kept : Within 21003 30096 w w′
-  pub heads : headIn (t .few) w′ ≡ headIn (t .few) w
-  pub nexts : nextIn (t .few) w′ ≡ nextIn (t .few) w
-  pub more : n ≤ n′
-  pub level : n′ ≡ n → (w′ ≡ w) × (labelOf w x ≡ labelOf w y)
 
 -- The record at place i is to be met; and was: n′ joins now, and if none came the table holds place i too.
 pub record Stepping (t : Task) (w : List ℕ) (i n : ℕ) : Type 0 where

@@ -1,8 +1,8 @@
 // The engine that closes a list of records over the lent work table, pass by pass: labels that are the leaders, joins one at a time. Document 01, "Tags, records, following".
-// Rests on meaning (what follows), table (where things stand) and labels (labels and chains as they are written).
+// Rests on meaning (what follows), table (where things stand), labels (labels and chains as they are written) and uniting (joins).
 //
 // It closes the records whose numbers stand in the list, place after place, and again until a pass joins nothing. While it runs, a tag's label
-// is the smallest tag of its class; a join relabels the larger label to the smaller. Applications are found by their arguments' labels in a
+// is the smallest tag of its class (`uniting`). Applications are found by their arguments' labels in a
 // chained hash table whose links only fall. With which labels it begins, and what is told in the end, is `closure`'s.
 ghost use mathlib.Core.Path.{_≡_};
 ghost use Prim.Native.Nat.{_%_};
@@ -10,49 +10,15 @@ ghost use mathlib.Core.Bool.{true, false};
 ghost use Rattle.table.specs.Map.{listOf};
 ghost use Rattle.labels.specs.Chain.{seekTo, hits};
 ghost use Rattle.labels.specs.Parts.{width, nextTo};
-ghost use Rattle.passes.specs.State.{keyOf, eqnOf, bucketIn, linkIn, Seeking, Finding, Joining, Joined, Meeting, Met, Stepping, Stepped, Unifying, State, Passed, Rested};
+ghost use Rattle.uniting.specs.State.{State};
+ghost use Rattle.passes.specs.State.{keyOf, eqnOf, bucketIn, linkIn, Seeking, Finding, Stepping, Stepped, Unifying, Passed, Rested};
 use meaning::RecordNo;
-use meaning::Tag;
-
-// What is closed: the list's first `places` records, of those 1 to `len` that the table holds of `size` tags. The chains are short of places and
-// buckets where `few` says so.
-pub struct Task {
-    pub size: usize,
-    pub len: usize,
-    pub places: usize,
-    pub few: bool,
-}
+use uniting::Task;
 
 // Where the record at a place belongs by its key: the bucket, and the first link there whose record has the same key, or 0.
 pub struct Spot {
     pub bucket: usize,
     pub link: usize,
-}
-
-// The classes labelled a and b become one: the smaller label stands for both.
-fn join(work: &mut [u16], task: Task, a: Tag, b: Tag)
-    requires { ⌜ Joining task (now work) (a .0) (b .0) ⌝ }
-    ensures { λ _. ⌜ Joined task (now (work .entry)) (now (work .exit)) ⌝ }
-{
-    if a.0 < b.0 {
-        labels::merge(work, task.size, a, b);
-    } else {
-        labels::merge(work, task.size, b, a);
-    }
-}
-
-// Two tags that are equal by the list's records are joined unless they have one label. The number of joins then.
-fn meet(work: &mut [u16], task: Task, s: Tag, t: Tag, joins: usize) -> usize
-    requires { ⌜ Meeting task (now work) (s .0) (t .0) joins ⌝ }
-    ensures { λ r. ⌜ Met task (now (work .entry)) (s .0) (t .0) joins (now (work .exit)) r ⌝ }
-{
-    let a = table::label(work, s);
-    let b = table::label(work, t);
-    if a.0 == b.0 {
-        return joins;
-    }
-    join(work, task, a, b);
-    joins + 1
 }
 
 // The bucket of a key.
@@ -104,7 +70,7 @@ fn equate(work: &mut [u16], task: Task, r: RecordNo, i: usize, joins: usize) -> 
 {
     let s = table::left(work, r);
     let t = table::right(work, r);
-    meet(work, task, s, t, joins)
+    uniting::meet(work, task, s, t, joins)
 }
 
 // The application at place i meets the one that the link p leads to: their results are joined unless they have one label.
@@ -116,7 +82,7 @@ fn unify(work: &mut [u16], task: Task, p: usize, i: usize, joins: usize) -> usiz
     let r = table::listed(work, i);
     let s = table::result(work, q);
     let t = table::result(work, r);
-    meet(work, task, s, t, joins)
+    uniting::meet(work, task, s, t, joins)
 }
 
 // The application at place i is met: it is looked up, and goes into the table where none is found.

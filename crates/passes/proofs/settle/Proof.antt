@@ -6,7 +6,7 @@ use Prim.Native.Nat.{_-_, _≤_}
 use native.Mathlib.Omega.{arith}
 use Rattle.table.specs.Map.{Within}
 use Rattle.table.proofs.Frame.{within-refl, within-trans}
-use Rattle.passes.specs.State.{State}
+use Rattle.uniting.specs.State.{State}
 use Rattle.passes.proofs.settle.Statement.{statement}
 use Rattle.passes.proofs.settle.Tie as tie
 

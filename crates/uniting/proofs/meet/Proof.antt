@@ -2,9 +2,9 @@
 -- Assumes nothing.
 use mathlib.Core.Path.{refl, sym, _∙_}
 use native.Mathlib.Omega.{arith}
-use Rattle.passes.proofs.meet.Statement.{statement}
-use Rattle.passes.proofs.meet.Tie as tie
-use Rattle.passes.proofs.Steps.{meet-stay, meet-due, meet-joined}
+use Rattle.uniting.proofs.meet.Statement.{statement}
+use Rattle.uniting.proofs.meet.Tie as tie
+use Rattle.uniting.proofs.Uniting.{meet-stay, meet-due, meet-joined}
 
 label-requires : tie.Need-label-requires
 label-requires c κs = let p = c .before .before .pre in (p .state .listed .loaded .long, omega (arith, p .tags, p .state .listed .loaded .few))

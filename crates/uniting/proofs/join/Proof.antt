@@ -1,9 +1,9 @@
 -- `join` meets its contract. Labels that differ have a smaller one, and the two may change places.
 -- Assumes nothing.
 use native.Mathlib.Omega.{arith}
-use Rattle.passes.proofs.join.Statement.{statement}
-use Rattle.passes.proofs.join.Tie as tie
-use Rattle.passes.proofs.Uniting.{united, joining-flip}
+use Rattle.uniting.proofs.join.Statement.{statement}
+use Rattle.uniting.proofs.join.Tie as tie
+use Rattle.uniting.proofs.Uniting.{united, joining-flip}
 
 merge-requires : tie.Need-merge-requires
 merge-requires c κs = let s = c .before .before .before .before .before in (s .pre .listed .loaded .long, s .pre .listed .loaded .few, s .pre .tags .1, s .pre .own)

@@ -1,21 +1,26 @@
 -- A join in the table: one label was made another. Labels stay sound, since the two tags are equal by the list's records, and there is one class fewer.
 -- Assumes nothing.
-use Prim.Native.Nat.{ℕ, suc, _<_}
+use Prim.Native.Nat.{ℕ, suc, _+_, _<_}
 use native.Mathlib.Omega.{arith}
+use native.Mathlib.Numerals.{add-one}
 use native.Mathlib.Decide.{ℕ-discrete}
-use mathlib.Core.Path.{_≡_, sym, ap, _∙_}
-use mathlib.Core.Logic.{inl, inr}
+use mathlib.Core.Path.{_≡_, refl, sym, ap, _∙_}
+use mathlib.Core.Logic.{_≢_, inl, inr}
 use mathlib.Core.List.{List}
 use Rattle.meaning.specs.Following.{Follows, flip, chain, Only}
 use Rattle.meaning.specs.Labels.{into}
 use Rattle.meaning.proofs.Relabel.{into-hit, into-miss, relabel-labels, relabel-classes}
 use Rattle.table.specs.Map.{listOf, labelOf, recordsIn, listIn, Within}
-use Rattle.table.proofs.Frame.{seen-within, within-wider}
+use Rattle.table.proofs.Frame.{seen-within, within-refl, within-wider}
+use Rattle.table.proofs.Kept.{lefts, rights, results, loaded-same}
 use Rattle.labels.specs.Parts.{reach, width, Relabelled}
-use Rattle.table.proofs.Kept.{lefts, rights, results}
-use Rattle.passes.specs.declared.Task.{Task}
-use Rattle.passes.specs.State.{State, Joining, Joined}
-use Rattle.passes.proofs.Views.{listed-same}
+use Rattle.uniting.specs.Listed.{Listed}
+use Rattle.uniting.specs.declared.Task.{Task}
+use Rattle.uniting.specs.State.{State, Joining, Joined, Meeting, Met}
+
+-- The list is kept where the columns are.
+pub listed-same : {end N len n : ℕ} {w w′ : List ℕ} → Within 12003 end w w′ → listOf w′ ≡ listOf w → Listed N len n w → Listed N len n w′
+listed-same f e h = record { loaded = loaded-same f (h .loaded); short = h .short; named = rw e (h .named) }
 
 module _ {t : Task} {w w′ : List ℕ} {lo hi : ℕ} (J : Joining t w lo hi) (less : lo < hi) (m : Relabelled w w′ lo hi) where
   list : listOf w′ ≡ listOf w
@@ -51,3 +56,21 @@ module _ {t : Task} {w w′ : List ℕ} {lo hi : ℕ} (J : Joining t w lo hi) (l
 -- The two may change places.
 pub joining-flip : {t : Task} {w : List ℕ} {a b : ℕ} → Joining t w a b → Joining t w b a
 joining-flip J = record { listed = J .listed; own = J .own; tags = (J .tags .1, J .tags .0); labels = (J .labels .1, J .labels .0); apart = λ q. J .apart (sym q); follows = flip (J .follows) }
+
+-- What `meet` asks and tells: two tags that are equal by the list's records have one label, or labels that are due to be joined.
+module _ {t : Task} {w : List ℕ} {x y n : ℕ} (m : Meeting t w x y n) where
+  pub meet-stay : labelOf w x ≡ labelOf w y → Met t w x y n w n
+  meet-stay e = record { state = m .state; kept = within-refl w; heads = refl; nexts = refl; more = omega arith; level = λ q. (refl, e) }
+
+  pub meet-due : (a b : ℕ) → a ≡ labelOf w x → b ≡ labelOf w y → a ≢ b → Joining t w a b
+  meet-due a b ea eb d = let s = m .state in record {
+    listed = s .listed;
+    own = s .own;
+    tags = (rw ea (omega (arith, s .labels .low x, m .tags)), rw eb (omega (arith, s .labels .low y, m .tags)));
+    labels = (rw ea (s .labels .flat x), rw eb (s .labels .flat y));
+    apart = d;
+    follows = rw (ea, eb) (chain (flip (s .sound x)) (chain (m .follows) (s .sound y)));
+  }
+
+  pub meet-joined : {w′ : List ℕ} → Joined t w w′ → Met t w x y n w′ (n + 1)
+  meet-joined j = record { state = rw add-one (j .state n (m .state)); kept = j .kept; heads = j .heads; nexts = j .nexts; more = omega arith; level = λ e. absurd (omega arith) }
