@@ -1,8 +1,8 @@
--- `lines_cases::show` is safe: the part that is written was tested to lie within the room.
+-- `tell_cases::show` is safe: the part that is written was tested to lie within the room.
 -- Assumes nothing.
 use borrow.Author.Needs.{needs}
-use Rattle.lines_cases.proofs.show.Statement.{statement}
-use Rattle.lines_cases.proofs.show.Tie as tie
+use Rattle.tell_cases.proofs.show.Statement.{statement}
+use Rattle.tell_cases.proofs.show.Tie as tie
 use mathlib.Core.Path.{sym}
 use native.Mathlib.Omega.{arith}
 use lib.Seq.{length-take-le}

@@ -1,8 +1,7 @@
 // Texts for fixed jobs and reports: the inspector's job of document 01 with its report, small ones beside it, refusals, and rooms that
-// a text fills or overfills by one byte. Rests on lines; no contract says what is written, the stored output does.
+// a text fills or overfills by one byte. Rests on tell; no contract says what is written, the stored output does.
 use lines::Told;
-use lines::tell_refusal;
-use lines::tell_report;
+use tell::tell_answer;
 
 // The text at the front of a room, or that it did not fit.
 fn show(room: &[u8], told: Told) {
@@ -22,14 +21,14 @@ fn report(name: &[u8], job: &[u8], report: &[u8]) {
     io::write_all(1, name);
     let mut space = [7u8; 200];
     let room: &mut [u8] = &mut space;
-    let told = tell_report(job, report, room);
+    let told = tell_answer(job, report, 0, 0, report.len(), room);
     show(room, told);
 }
 
 fn refusal(number: u8, place: usize) {
     let mut space = [7u8; 40];
     let room: &mut [u8] = &mut space;
-    let told = tell_refusal(number, place, room);
+    let told = tell_answer(b"", b"", number, place, 0, room);
     show(room, told);
 }
 
@@ -92,7 +91,7 @@ fn refusals() {
 // A refusal in the first n bytes of a room, and then all the room's bytes.
 fn within(room: &mut [u8], n: usize, number: u8, place: usize) {
     if n <= room.len() {
-        let told = tell_refusal(number, place, &mut room[..n]);
+        let told = tell_answer(b"", b"", number, place, 0, &mut room[..n]);
         show(room, told);
         io::write_all(1, room);
     }
