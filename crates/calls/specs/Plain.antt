@@ -4,22 +4,12 @@
 use Prim.Native.Nat.{ℕ, _≤_}
 use mathlib.Core.Path.{_≡_}
 use mathlib.Core.List.{List}
-use lib.ListN.{length, replicate}
+use lib.ListN.{length}
 use Rattle.records.specs.declared.Record.{Record}
 use Rattle.records.specs.Table.{blank}
-use Rattle.sight.specs.declared.Sight.{Sight}
-use Rattle.intake.specs.Received.{Received}
+use Rattle.own_table.specs.Own.{filled}
 use Rattle.running.specs.Run.{Ran}
 use Rattle.rechecking.specs.Recheck.{Rechecked}
-
--- The table that is lent: 4,000 places that hold the same record.
-abbrev pub filled : Record → List Record
-filled each = replicate 4000 each
-
--- What is known once that table has had its part; what is left in it is of no concern.
-pub record ReceivedOver (each : Record) (job work : List ℕ) (s : Sight) (work′ : List ℕ) : Type 0 where
-  pub records : List Record
-  pub received : Received job (filled each) work s records work′
 
 -- A run with that table; what it leaves in it is of no concern. The lengths of what was lent are kept, and the report is inside the room.
 pub record RanOver (each : Record) (job room work : List ℕ) (n p l : ℕ) (room′ work′ : List ℕ) : Type 0 where

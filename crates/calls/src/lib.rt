@@ -1,25 +1,16 @@
 // The tool's two calls for a caller that holds no record table: each lends one of its own, 4,000 places that are blank. Document 01, "What is
 // lent, and each refusal". No call here has a condition on its caller. The `_over` calls lend places that all hold a record of the caller's
-// choice, for tests with a dirty table. Rests on intake, finishing and weighing, the parts of which the run and the recheck are made.
+// choice, for tests with a dirty table. Rests on own_table, finishing and weighing.
 ghost use mathlib.Core.Path.{_≡_};
 ghost use Rattle.records.specs.Table.{blank};
-ghost use Rattle.calls.specs.Plain.{ReceivedOver, RanOver, RecheckedOver, RanAlone, RecheckedAlone};
+ghost use Rattle.calls.specs.Plain.{RanOver, RecheckedOver, RanAlone, RecheckedAlone};
 use finishing::Answer;
 use finishing::finish;
-use intake::receive;
 use meaning::Tag;
+use own_table::receive_over;
 use records::Record;
-use sight::Sight;
 use weighing::Finding;
 use weighing::weigh;
-
-// The record table's part of a call, with a table whose places all hold the same record.
-fn receive_over(job: &[u8], work: &mut [u16], each: Record) -> Sight
-    ensures { λ r. ⌜ ReceivedOver each (now (job .entry)) (now (work .entry)) r (now (work .exit)) ⌝ }
-{
-    let mut records = [each; 4000];
-    receive(job, &mut records, work)
-}
 
 // Answers a job: the report comes to the front of the room. Each place of the record table holds the same record.
 pub fn run_over(job: &[u8], room: &mut [u8], work: &mut [u16], each: Record) -> Answer

@@ -4,9 +4,10 @@ use Prim.Native.Nat.{ℕ}
 use mathlib.Core.Path.{_≡_, refl}
 use mathlib.Core.List.{List, [], _∷_, _++_, append-assoc, append-nil}
 use borrow.Author.Tests.{eq-eqb, ne-eqb}
-use Rattle.line_text.specs.Line.{digits, parted, line, askLine}
-use Rattle.line_text.specs.Put.{Put}
-use Rattle.line_text.proofs.Puts.{put-then, put-as}
+use Rattle.digits.specs.Digits.{digits}
+use Rattle.line_text.specs.Line.{parted, line, askLine}
+use Rattle.digits.specs.Put.{Put}
+use Rattle.digits.proofs.Puts.{put-then, put-as}
 
 pub parted-append : (a b : List ℕ) → parted (a ++ b) ≡ parted a ++ parted b
 unfolding parted

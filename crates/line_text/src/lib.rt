@@ -1,42 +1,9 @@
-// A line of text: a letter and numbers in decimal, put into a room of bytes. Document 01, "The program". Rests on nothing.
-ghost use mathlib.Core.Path.{_≡_};
+// A line of text: a letter and numbers in decimal, put into a room of bytes. Document 01, "The program". Rests on digits.
 ghost use mathlib.Core.List.{[], _∷_};
-ghost use Prim.Native.Nat.{_+_, _<_};
-ghost use Rattle.line_text.specs.Line.{digits, parted, line, askLine};
-ghost use Rattle.line_text.specs.Put.{Put};
-
-// The text so far ends before a place, and each function below puts more there and gives the place behind it. Past the room's end
-// nothing is stored, and the place is the first past that end.
-pub fn put(out: &mut [u8], at: usize, byte: u8) -> usize
-    ensures { λ r. ⌜ Put (byte ∷ []) (now (out .entry)) at (now (out .exit)) r ⌝ }
-{
-    if at < out.len() {
-        out[at] = byte;
-        at + 1
-    } else {
-        out.len() + 1
-    }
-}
-
-// The byte of a digit.
-fn digit(n: usize) -> u8
-    requires { ⌜ n < 10 ⌝ }
-    ensures { λ r. ⌜ r ≡ 48 + n ⌝ }
-{
-    48 + n as u8
-}
-
-// A number in decimal: the digits before the last one are those of its tenth part.
-fn put_number(out: &mut [u8], at: usize, n: usize) -> usize
-    ensures { λ r. ⌜ Put (digits n) (now (out .entry)) at (now (out .exit)) r ⌝ }
-{
-    if n < 10 {
-        put(out, at, digit(n))
-    } else {
-        let next = put_number(out, at, n / 10);
-        put(out, next, digit(n % 10))
-    }
-}
+ghost use Rattle.digits.specs.Put.{Put};
+ghost use Rattle.line_text.specs.Line.{parted, line, askLine};
+use digits::put;
+use digits::put_number;
 
 // A number of a line, with the space before it.
 pub fn put_parted(out: &mut [u8], at: usize, n: usize) -> usize

@@ -6,8 +6,8 @@ use mathlib.Core.Path.{_≡_, sym, _∙_, ap, subst}
 use mathlib.Core.List.{List, _++_, append-nil}
 use lib.ListN.{length, take, drop, take-append-drop}
 use lib.Seq.{sets, sets-eq, length-take-le, drop-length}
-use Rattle.line_text.specs.Put.{Put}
-use Rattle.line_text.proofs.Puts.{sets-append, sets-past, put-length}
+use Rattle.digits.specs.Put.{Put}
+use Rattle.digits.proofs.Puts.{sets-append, sets-past, put-length}
 use Rattle.lines.specs.Told.{Tells, whole, full, Ended, within, past}
 use Rattle.lines.specs.declared.Told.{Told}
 

@@ -15,10 +15,11 @@ use Rattle.job.specs.Items.{Item, noted, ask, explain, accepted, questionsOf}
 use Rattle.job.specs.Reading.{byteAt, numberAt, reading}
 use Rattle.job.specs.Standing.{Stands, ends, next}
 use Rattle.job.proofs.Standing.{accepted-stands}
-use Rattle.line_text.specs.Line.{digits, parted, line, askLine}
+use Rattle.digits.specs.Digits.{digits}
+use Rattle.line_text.specs.Line.{parted, line, askLine}
 use Rattle.field_text.specs.Fields.{numbersIn, bodyOf, explainLine, lineOf, totalsLine}
 use Rattle.lines.specs.Lines.{linesOf, refusalLine}
-use Rattle.line_text.proofs.Digits.{digits-one, digits-more}
+use Rattle.digits.proofs.Digits.{digits-one, digits-more}
 use Rattle.field_text.proofs.Parts.{length-numbers}
 
 abbrev tens : ℕ → ℕ

@@ -16,8 +16,8 @@ use Rattle.job.specs.Standing.{Stands, ends, next}
 use Rattle.job.proofs.Standing.{stands-within}
 use Rattle.field_text.specs.Fields.{lineOf, widthOf, totalsLine, textAt, widthAt}
 use Rattle.lines.specs.Lines.{linesOf}
-use Rattle.line_text.specs.Put.{Put, Half}
-use Rattle.line_text.proofs.Puts.{half-more, half-done, half-as}
+use Rattle.digits.specs.Put.{Put, Half}
+use Rattle.digits.proofs.Puts.{half-more, half-done, half-as}
 
 -- At a place of the job items stand, and their lines are still to be put; or the job has ended, and the text is whole.
 pub data Walked (job report text room : List ℕ) (at from : ℕ) (room′ : List ℕ) (place : ℕ) : Type 0 where

@@ -1,7 +1,7 @@
 // The lines that tagcheck writes. Document 01, "The program". A job and its report go in, and the text comes out in a room of bytes;
 // nothing here reads or writes a file. Rests on job, job_read, line_text and field_text.
 ghost use Rattle.job.specs.Reading.{reading, itemsIn};
-ghost use Rattle.line_text.specs.Put.{Put};
+ghost use Rattle.digits.specs.Put.{Put};
 ghost use Rattle.lines.specs.Lines.{linesOf, refusalLine, textOf};
 ghost use Rattle.lines.specs.Told.{Tells, Ended, Accepted};
 use field_text::passed;

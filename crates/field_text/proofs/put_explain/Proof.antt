@@ -2,7 +2,7 @@
 -- Assumes nothing.
 use borrow.Author.Needs.{needs}
 use mathlib.Core.Path.{sym, _∙_}
-use Rattle.line_text.proofs.Puts.{put-as}
+use Rattle.digits.proofs.Puts.{put-as}
 use Rattle.field_text.proofs.Parts.{explainLine-reason, explainLine-none}
 use Rattle.field_text.proofs.put_explain.Statement.{statement}
 use Rattle.field_text.proofs.put_explain.Tie as tie

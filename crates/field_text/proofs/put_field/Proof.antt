@@ -6,7 +6,7 @@ use mathlib.Core.Path.{_≡_, _∙_}
 use mathlib.Core.List.{List}
 use Rattle.line_text.specs.Line.{askLine}
 use Rattle.field_text.specs.Fields.{explainLine}
-use Rattle.line_text.proofs.Puts.{put-as, put-nothing}
+use Rattle.digits.proofs.Puts.{put-as, put-nothing}
 use Rattle.field_text.proofs.put_field.Statement.{statement}
 use Rattle.field_text.proofs.put_field.Tie as tie
 

@@ -10,8 +10,8 @@ use denote.Ref.{now}
 use lib.Seq.{slice}
 use Rattle.line_text.specs.Line.{parted}
 use Rattle.field_text.specs.Fields.{numbersIn}
-use Rattle.line_text.specs.Put.{Half}
-use Rattle.line_text.proofs.Puts.{put-length, put-as, half-none, half-more, half-done, half-as}
+use Rattle.digits.specs.Put.{Half}
+use Rattle.digits.proofs.Puts.{put-length, put-as, half-none, half-more, half-done, half-as}
 use Rattle.field_text.proofs.Parts.{numbers-next, numbers-none}
 use Rattle.field_text.proofs.put_numbers.Statement.{statement}
 use Rattle.field_text.proofs.put_numbers.Tie as tie

@@ -9,7 +9,7 @@ use denote.Ref.{now}
 use lib.Seq.{slice}
 use Rattle.line_text.specs.Line.{parted}
 use Rattle.field_text.specs.Fields.{numbersIn, bodyOf}
-use Rattle.line_text.proofs.Puts.{put-as}
+use Rattle.digits.proofs.Puts.{put-as}
 use Rattle.line_text.proofs.Parted.{put-more, put-ended}
 use Rattle.field_text.proofs.Parts.{body-slice, length-body}
 use Rattle.field_text.proofs.put_reason.Statement.{statement}

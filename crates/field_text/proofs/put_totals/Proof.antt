@@ -6,7 +6,7 @@ use mathlib.Core.List.{[], _∷_}
 use Prim.Native.Nat.{ℕ}
 use Rattle.line_text.specs.Line.{line}
 use Rattle.field_text.specs.Fields.{totalsLine}
-use Rattle.line_text.proofs.Puts.{put-as}
+use Rattle.digits.proofs.Puts.{put-as}
 use Rattle.field_text.proofs.put_totals.Statement.{statement}
 use Rattle.field_text.proofs.put_totals.Tie as tie
 

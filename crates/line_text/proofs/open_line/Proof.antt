@@ -4,7 +4,7 @@ use borrow.Author.Needs.{needs}
 use mathlib.Core.List.{[], _∷_}
 use Rattle.line_text.specs.Line.{parted}
 use Rattle.line_text.proofs.Parted.{put-more}
-use Rattle.line_text.specs.Put.{Put}
+use Rattle.digits.specs.Put.{Put}
 use Rattle.line_text.proofs.open_line.Statement.{statement}
 use Rattle.line_text.proofs.open_line.Tie as tie
 

@@ -2,7 +2,7 @@
 -- Assumes nothing.
 use borrow.Author.Needs.{needs}
 use mathlib.Core.List.{[], _∷_}
-use Rattle.line_text.proofs.Puts.{put-as}
+use Rattle.digits.proofs.Puts.{put-as}
 use Rattle.line_text.proofs.Parted.{put-more, put-ended, askLine-same, askLine-apart}
 use Rattle.line_text.proofs.put_ask.Statement.{statement}
 use Rattle.line_text.proofs.put_ask.Tie as tie

@@ -1,7 +1,7 @@
 -- `line_text::put_parted` meets its contract: the space and the digits, put one after the other, are the parted number.
 -- Assumes nothing.
 use borrow.Author.Needs.{needs}
-use Rattle.line_text.proofs.Puts.{put-then, put-as}
+use Rattle.digits.proofs.Puts.{put-then, put-as}
 use Rattle.line_text.proofs.Parted.{parted-one}
 use Rattle.line_text.proofs.put_parted.Statement.{statement}
 use Rattle.line_text.proofs.put_parted.Tie as tie

@@ -12,9 +12,9 @@ use borrow.Rule.Slice.PartAt.{part-to-end}
 use Rattle.job.specs.Reading.{fieldAt, itemsIn}
 use Rattle.job.specs.Answer.{said, spanOfField}
 use Rattle.job.proofs.Standing.{accepted-stands}
-use Rattle.line_text.proofs.Puts.{put-place, put-length, half-none, half-as}
+use Rattle.digits.proofs.Puts.{put-place, put-length, half-none, half-as}
 use Rattle.lines.specs.Lines.{linesOf}
-use Rattle.line_text.specs.Put.{Put}
+use Rattle.digits.specs.Put.{Put}
 use Rattle.field_text.specs.Fields.{textAt, widthAt}
 use Rattle.lines.proofs.Walking.{Walked, underway, walk-on, walk-falls, walk-done, span-small}
 use Rattle.lines.proofs.put_items.Statement.{statement}

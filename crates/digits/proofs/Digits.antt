@@ -7,7 +7,7 @@ use native.Mathlib.Decide.{decLt}
 use mathlib.Core.Path.{_≡_}
 use mathlib.Core.List.{[], _∷_, _++_}
 use borrow.Author.Tests.{lt-ltb, le-ltb}
-use Rattle.line_text.specs.Line.{digitsBy, digits}
+use Rattle.digits.specs.Digits.{digitsBy, digits}
 
 pub digits-enough : (turns more n : ℕ) → n < turns → n < more → digitsBy turns n ≡ digitsBy more n
 unfolding digitsBy

@@ -8,7 +8,7 @@ use mathlib.Core.Path.{_≡_, refl, sym, _∙_, subst}
 use mathlib.Core.List.{List, [], _∷_, _++_, append-assoc, append-nil}
 use lib.ListN.{length, set, length-append}
 use lib.Seq.{sets, length-sets, set-out}
-use Rattle.line_text.specs.Put.{Put, Half}
+use Rattle.digits.specs.Put.{Put, Half}
 
 pub sets-append : (room : List ℕ) (at : ℕ) (s t : List ℕ) → sets room at (s ++ t) ≡ sets (sets room at s) (at + length s) t
 sets-append room at [] t = let e : at + 0 ≡ at = omega arith in rw e

@@ -1,11 +1,11 @@
--- `line_text::put` meets its contract. Within the room one byte is stored; past its end a store would change nothing, and none is made.
+-- `digits::put` meets its contract. Within the room one byte is stored; past its end a store would change nothing, and none is made.
 -- Assumes nothing.
 use borrow.Author.Needs.{needs}
 use mathlib.Core.Path.{sym}
 use native.Mathlib.Omega.{arith}
 use lib.Seq.{set-out}
-use Rattle.line_text.proofs.put.Statement.{statement}
-use Rattle.line_text.proofs.put.Tie as tie
+use Rattle.digits.proofs.put.Statement.{statement}
+use Rattle.digits.proofs.put.Tie as tie
 
 slice-write-out : tie.Need-slice-write-out
 slice-write-out c = search needs

@@ -55,13 +55,13 @@ use Rattle.intake.proofs.receive as rec
 use Rattle.intake.proofs.receive.Symbol as receive-def
 use Rattle.intake.proofs.receive.Symbol.{name as #intake·receive}
 use Rattle.intake.proofs.receive.Met as receive-thm
-use Rattle.calls.specs.Plain.{filled, ReceivedOver}
-use Rattle.calls.proofs.Local.{table-in, table-out}
-use Rattle.calls.proofs.receive_over.Key.{name as #calls·receive-over}
-use Rattle.calls.proofs.receive_over as f
-use Rattle.calls.proofs.receive_over.Statement as stated
-use Rattle.calls.proofs.receive_over.Code as code
-use Rattle.calls.proofs.receive_over.Code.Mir as m
+use Rattle.own_table.specs.Own.{filled, ReceivedOver}
+use Rattle.own_table.proofs.Local.{table-in, table-out}
+use Rattle.own_table.proofs.receive_over.Key.{name as #own-table·receive-over}
+use Rattle.own_table.proofs.receive_over as f
+use Rattle.own_table.proofs.receive_over.Statement as stated
+use Rattle.own_table.proofs.receive_over.Code as code
+use Rattle.own_table.proofs.receive_over.Code.Mir as m
 
 abbrev SR : RattleType
 SR = S.the-row
@@ -242,6 +242,6 @@ pub receive-over-spec : {M : Type 1} → stated.statement M
 unfolding code.routine tablesOf
 receive-over-spec 𝓤 H 𝓜 𝓖 𝓡 =
     entered 𝓤 H (tripleOf 𝓤 H (𝓖 .A) f.signature (f.spec 𝓤 H (𝓖 .A) (𝓜 .mem) (𝓡 .run)))
-    (tables 𝓤 H 𝓜 𝓡 code.env .C) (tables 𝓤 H 𝓜 𝓡 code.env .Λ) #calls·receive-over code.function (code.unfolded 𝓤 H 𝓜 𝓡)
+    (tables 𝓤 H 𝓜 𝓡 code.env .C) (tables 𝓤 H 𝓜 𝓡 code.env .Λ) #own-table·receive-over code.function (code.unfolded 𝓤 H 𝓜 𝓡)
     (receive-over-meets 𝓤 H (𝓖 .A) (givenOf 𝓤 H 𝓜 𝓖) (𝓜 .mem) (𝓡 .run) (tablesOf 𝓤 H 𝓜 (tables 𝓤 H 𝓜 𝓡 code.env))
     (cited 𝓤 H (Receive 𝓤 H (𝓖 .A) (𝓜 .mem) (𝓡 .run)) 𝓜 𝓡 code.env #intake·receive receive-def.routine code.calls-intake·receive (receive-thm.met 𝓤 H 𝓜 𝓖 𝓡)))

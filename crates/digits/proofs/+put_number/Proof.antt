@@ -1,4 +1,4 @@
--- `line_text::put_number` meets its contract. It calls itself on the tenth part, whose digits stand before the last one, and the number falls.
+-- `digits::put_number` meets its contract. It calls itself on the tenth part, whose digits stand before the last one, and the number falls.
 -- Assumes nothing.
 use borrow.Author.Needs.{needs}
 use borrow.Fn.Kinds.{In}
@@ -7,16 +7,16 @@ use mathlib.Core.Path.{_≡_}
 use mathlib.Core.List.{[], _∷_, _++_}
 use Prim.Native.Nat.{ℕ, _+_, _/_, _%_, _<_}
 use native.Mathlib.Omega.{arith}
-use Rattle.line_text.proofs.put_number.Reads as put-number
-use Rattle.line_text.proofs.put_number.Kinds as put-number-kinds
-use Rattle.line_text.proofs.+put_number.Lts-put_number as put-number-lts
-use Rattle.line_text.proofs.digit.Reads as digit-reads
-use Rattle.line_text.proofs.put.Reads as put-reads
-use Rattle.line_text.proofs.+put_number.{statement}
-use Rattle.line_text.specs.Line.{digits}
-use Rattle.line_text.proofs.Digits.{digits-one, digits-more}
-use Rattle.line_text.proofs.Puts.{put-then, put-as}
-use Rattle.line_text.proofs.+put_number.Tie.{close}
+use Rattle.digits.proofs.put_number.Reads as put-number
+use Rattle.digits.proofs.put_number.Kinds as put-number-kinds
+use Rattle.digits.proofs.+put_number.Lts-put_number as put-number-lts
+use Rattle.digits.proofs.digit.Reads as digit-reads
+use Rattle.digits.proofs.put.Reads as put-reads
+use Rattle.digits.proofs.+put_number.{statement}
+use Rattle.digits.specs.Digits.{digits}
+use Rattle.digits.proofs.Digits.{digits-one, digits-more}
+use Rattle.digits.proofs.Puts.{put-then, put-as}
+use Rattle.digits.proofs.+put_number.Tie.{close}
 
 abbrev μ-put-number : Measures 1 put-number-kinds.ps ℕ
 μ-put-number κs a = a .1 .1 .0
