@@ -2,10 +2,14 @@
 // table. Document 01, "The job and the report". Rests on meaning, job and records.
 ghost use mathlib.Core.Path.{_≡_};
 ghost use Rattle.meaning.specs.Following.{eq, app};
+ghost use Rattle.job.specs.Items.{standsFor};
 ghost use Rattle.job.specs.Reading.{fieldAt};
+ghost use Rattle.job.specs.Answer.{noteSaid};
 ghost use Rattle.records.specs.Table.{placeOf};
-ghost use Rattle.next_record.specs.Seeking.{foundAt, noRecord, Seeks};
+ghost use Rattle.next_record.specs.Seeking.{foundIn, foundAt, noRecord, Seeks};
 use job::Field;
+use job::Line;
+use job::behind;
 use job::read;
 use meaning::Tag;
 use records::Record;
@@ -58,26 +62,34 @@ fn no_record(question: bool, next: usize) -> Found
     }
 }
 
+// What a note gives, where the next field stands at `next`.
+fn note_found(l: Line, next: usize) -> Found
+    ensures { λ r. ⌜ r ≡ foundIn next (standsFor (noteSaid l)) ⌝ }
+{
+    match l {
+        Line::Equation(a, b) => Found {
+            question: false,
+            place: equation(a, b),
+            next,
+        },
+        Line::Application(a, b, c) => Found {
+            question: false,
+            place: application(a, b, c),
+            next,
+        },
+    }
+}
+
 // What stands at a place.
 fn look(job: &[u8], at: usize) -> Found
-    ensures { λ r. ⌜ r ≡ foundAt at (fieldAt (now (job .entry)) at) ⌝ }
+    ensures { λ r. ⌜ r ≡ foundAt (now (job .entry)) at (fieldAt (now (job .entry)) at) ⌝ }
 {
     let field = read(job, at);
     match field {
-        Field::Equation(a, b) => Found {
-            question: false,
-            place: equation(a, b),
-            next: at + 7,
-        },
-        Field::Application(a, b, c) => Found {
-            question: false,
-            place: application(a, b, c),
-            next: at + 9,
-        },
-        Field::Ask(_, _) => no_record(true, at + 7),
-        Field::Explain(_, _) => no_record(true, at + 7),
+        Field::Noted(l) => note_found(l, behind(job, at)),
+        Field::Posed(_) => no_record(true, behind(job, at)),
+        Field::Header(_) => no_record(true, behind(job, at)),
         Field::Bad(_) => no_record(false, at),
-        Field::Header(_) => no_record(false, at),
         Field::End => no_record(false, at),
     }
 }
