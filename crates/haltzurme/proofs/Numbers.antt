@@ -8,7 +8,8 @@ use mathlib.Core.List.{List, []}
 use lib.Dec.{eqb, leb}
 use lib.ListN.{length}
 use Rattle.job.specs.Items.{Head, unsized, Moment, start, after, Item, Reading, refused, accepted}
-use Rattle.job.specs.Reading.{Kind, first, record-eq, record-app, question-ask, question-explain, last, unknown, Field, bad, header, item, end, known, lengthAt, behindAt, bodyLength, bodyAt, orElse, ofKind, fieldAt, kindAt, byteAt, checked, counted, numbered, with, behind, onward, readFrom, reading}
+use Rattle.job.specs.Reading.{Kind, first, unknown, Field, bad, header, item, end, known, lengthAt, behindAt, bodyLength, bodyAt, orElse, ofKind, fieldAt, kindAt, byteAt, checked, counted, numbered, with, behind, onward, readFrom, reading}
+use Rattle.job.proofs.Reading.{body-later}
 
 abbrev pub InRange : ℕ → Type 0
 InRange n = (3 ≤ n) × (n ≤ 8)
@@ -17,24 +18,24 @@ or-bad : (b : Bool) (k m : ℕ) (f : Field) → InRange k → (f ≡ bad m → I
 or-bad true k m f r h e = h e
 or-bad false k m f r h e = let q : k ≡ m = cc in rw (← q) r
 
-body-bad : (job : List ℕ) (at m : ℕ) (k : Kind) → bodyAt job at k ≡ bad m → InRange m
-body-bad job at m first e = let z : _≡_ {A = ℕ} 0 1 = cc in absurd (omega arith)
-body-bad job at m record-eq e = let z : _≡_ {A = ℕ} 0 1 = cc in absurd (omega arith)
-body-bad job at m record-app e = let z : _≡_ {A = ℕ} 0 1 = cc in absurd (omega arith)
-body-bad job at m question-ask e = let z : _≡_ {A = ℕ} 0 1 = cc in absurd (omega arith)
-body-bad job at m question-explain e = let z : _≡_ {A = ℕ} 0 1 = cc in absurd (omega arith)
-body-bad job at m last e = let z : _≡_ {A = ℕ} 0 1 = cc in absurd (omega arith)
-body-bad job at m unknown e = let q : 4 ≡ m = cc in rw (← q) (omega arith, omega arith)
+-- The first field's kind says N or nothing, and no later kind says anything else that is refused than 4.
+body-bad : (job : List ℕ) (at m : ℕ) → bodyAt job (at + 3) (kindAt at (byteAt job at)) ≡ bad m → InRange m
+body-bad job zero m e = go (eqb (byteAt job 0) 16) e
+  where
+    go : (p : Bool) → bodyAt job 3 (cond p first unknown) ≡ bad m → InRange m
+    go true e = let z : _≡_ {A = ℕ} 0 1 = cc in absurd (omega arith)
+    go false e = let q : 4 ≡ m = cc in rw (← q) (omega arith, omega arith)
+body-bad job (suc n) m e = let q : m ≡ 4 = body-later job (suc n) (bad m) (omega arith) e in rw q (omega arith, omega arith)
 
-kind-bad : (job : List ℕ) (at m : ℕ) (k : Kind) → ofKind job at k ≡ bad m → InRange m
-kind-bad job at m k =
+kind-bad : (job : List ℕ) (at m : ℕ) (k : Kind) → (bodyAt job (at + 3) k ≡ bad m → InRange m) → ofKind job at k ≡ bad m → InRange m
+kind-bad job at m k h =
     or-bad (known k) 4 m _ (omega arith, omega arith)
     (or-bad (eqb (lengthAt job at) (bodyLength k)) 5 m _ (omega arith, omega arith)
-    (or-bad (leb (behindAt job at) (length job)) 3 m _ (omega arith, omega arith) (body-bad job (at + 3) m k)))
+    (or-bad (leb (behindAt job at) (length job)) 3 m _ (omega arith, omega arith) h))
 
 field-bad : (job : List ℕ) (at m : ℕ) → fieldAt job at ≡ bad m → InRange m
 unfolding fieldAt
-field-bad job at m = or-bad (leb (at + 3) (length job)) 3 m _ (omega arith, omega arith) (kind-bad job at m (kindAt at (byteAt job at)))
+field-bad job at m = or-bad (leb (at + 3) (length job)) 3 m _ (omega arith, omega arith) (kind-bad job at m (kindAt at (byteAt job at)) (body-bad job at m))
 
 checked-bad : (H : Head) (b : Moment) (job : List ℕ) (at m : ℕ) → checked H b (fieldAt job at) ≡ bad m → InRange m
 unfolding checked

@@ -10,7 +10,7 @@ use borrow.Author.Tests.{leb-true, lt-leb, ne-eqb}
 use lib.Dec.{eqb, leb}
 use lib.ListN.{length}
 use Rattle.job.specs.Items.{Head, Moment, start, after, Item, Reading, refused, accepted}
-use Rattle.job.specs.Reading.{Kind, record-eq, record-app, question-ask, question-explain, last, unknown, Field, bad, header, item, end, known, bodyLength, bodyAt, laterKind, kindAt, byteAt, lengthAt, behindAt, orElse, ofKind, fieldAt, counted, numbered, checked, with, behind, onward, readFrom}
+use Rattle.job.specs.Reading.{Kind, record-eq, record-app, question-ask, question-explain, last, Field, bad, header, item, end, known, bodyLength, bodyAt, laterKind, kindAt, byteAt, lengthAt, behindAt, orElse, ofKind, fieldAt, counted, numbered, checked, with, behind, onward, readFrom}
 
 -- A field that is not refused.
 abbrev pub Sound : Field → Type 0
@@ -67,22 +67,29 @@ field-passed job at g s e = go (orElse-passed _ _ _ g s e)
 pub field-whole : (job : List ℕ) (at : ℕ) (g : Field) → Sound g → fieldAt job at ≡ g → behindAt job at ≤ length job
 field-whole job at g s e = field-passed job at g s e .there
 
--- N stands in the first field and nowhere else.
-later-first : (job : List ℕ) (at b : ℕ) (M : Head) → bodyAt job at (laterKind b) ≡ header M → ⊥
-later-first job at b M e = go (eqb b 1) (eqb b 2) (eqb b 3) (eqb b 4) (eqb b 127) e
-  where
-    go : (p q r s t : Bool) → bodyAt job at (cond p record-eq (cond q record-app (cond r question-ask (cond s question-explain (cond t last unknown))))) ≡ header M → ⊥
-    go true q r s t e = let z : _≡_ {A = ℕ} 0 1 = cc in omega arith
-    go false true r s t e = let z : _≡_ {A = ℕ} 0 1 = cc in omega arith
-    go false false true s t e = let z : _≡_ {A = ℕ} 0 1 = cc in omega arith
-    go false false false true t e = let z : _≡_ {A = ℕ} 0 1 = cc in omega arith
-    go false false false false true e = let z : _≡_ {A = ℕ} 0 1 = cc in omega arith
-    go false false false false false e = let z : _≡_ {A = ℕ} 0 1 = cc in omega arith
+-- What a kind says behind the first field: an item, the end, or nothing, which is refused by 4.
+abbrev pub NotFirst : Field → Type 0
+NotFirst (bad n) = n ≡ 4
+NotFirst (header M) = ⊥
+NotFirst (item i) = Unit {0}
+NotFirst end = Unit {0}
 
+record Later (job : List ℕ) (at : ℕ) (k : Kind) : Type 0 where
+  says : NotFirst (bodyAt job at k)
+
+later-says : (job : List ℕ) (at b : ℕ) → Later job at (laterKind b)
+later-says job at b = or (eqb b 1) record-eq tt (or (eqb b 2) record-app tt (or (eqb b 3) question-ask tt (or (eqb b 4) question-explain tt (or (eqb b 127) last tt (record { says = refl })))))
+  where
+    or : {l : Kind} (p : Bool) (k : Kind) → NotFirst (bodyAt job at k) → Later job at l → Later job at (cond p k l)
+    or true k h i = record { says = h }
+    or false k h i = i
+
+pub body-later : (job : List ℕ) (at : ℕ) (g : Field) → 0 < at → bodyAt job (at + 3) (kindAt at (byteAt job at)) ≡ g → NotFirst g
+body-later job at g h e = subst NotFirst (rw (ne-eqb at 0 (omega arith)) at e) (later-says job (at + 3) (byteAt job at) .says)
+
+-- So N stands in the first field and nowhere else.
 pub header-first : (job : List ℕ) (at : ℕ) (M : Head) → 0 < at → fieldAt job at ≡ header M → ⊥
-header-first job at M h e =
-    let i = field-passed job at (header M) tt e .is in
-    later-first job (at + 3) (byteAt job at) M (rw (ne-eqb at 0 (omega arith)) at i)
+header-first job at M h e = body-later job at (header M) h (field-passed job at (header M) tt e .is)
 
 -- So what is accepted behind the first field is accepted with what it was read with.
 abbrev pub Sized : Head → Reading → Type 0
