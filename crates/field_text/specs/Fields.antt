@@ -29,12 +29,12 @@ abbrev pub questionLine : Question → List ℕ → List ℕ
 questionLine (ask s t) report = askLine s t (numberAt report 3) (numberAt report 5)
 questionLine (explain s t) report = explainLine s t (byteAt report 0) (numbersIn (bodyOf report))
 
--- The line of an item: a record has none.
+-- The line of an item: a note has none.
 abbrev pub lineOf : Item → List ℕ → List ℕ
 lineOf (noted n) report = []
 lineOf (posed q) report = questionLine q report
 
--- The bytes of an item's field in the report: a question has one field, a record none.
+-- The bytes of an item's field in the report: a question has one field, a note none.
 abbrev pub widthOf : Item → List ℕ → ℕ
 widthOf (noted n) report = 0
 widthOf (posed q) report = 3 + numberAt report 1

@@ -89,7 +89,7 @@ pub record Matter : Type 0 where
 abbrev pub matterOf : Head → List Item → Matter
 matterOf H is = record { head = H; records = recordsOf is }
 
--- The tags of a note and of a question, in the order of the job's table.
+-- The tags of a record, a note, a question and an item, in the order of the job's table.
 abbrev pub tagsOfRecord : Rec → List ℕ
 tagsOfRecord (eq a b) = a ∷ b ∷ []
 tagsOfRecord (app a b c) = a ∷ b ∷ c ∷ []

@@ -27,8 +27,8 @@ pub data Field : Type 0 where
   item : Item → Field
   end : Field
 
--- The job's table, line by line. The kind that a byte names; 10 hex (16) is the first field, once: it stands at 0 and nowhere else,
--- and at 0 nothing else stands.
+-- The job's table, line by line: the byte of each kind, the bytes of its body, and what its numbers say. The kind that a byte names:
+-- 10 hex (16) is the first field, once, so that it stands at 0 and nowhere else, and at 0 nothing else stands; 7F hex (127) is the end.
 abbrev pub firstKind : ℕ → Kind
 firstKind b = cond (eqb b 16) first unknown
 
@@ -63,6 +63,7 @@ says question-explain a b c = item (posed (explain a b))
 says last a b c = end
 says unknown a b c = bad 4
 
+-- Every kind of the table is known.
 abbrev pub known : Kind → Bool
 known first = true
 known record-eq = true
@@ -106,7 +107,7 @@ mostRecords = 4000
 abbrev pub mostQuestions : ℕ
 mostQuestions = 1000
 
--- A field's own are counted with those before it.
+-- The records that a note stands for are counted with those before it, and so is a question.
 abbrev pub counted : Moment → Field → Bool
 counted b (bad n) = true
 counted b (header M) = true
@@ -169,11 +170,11 @@ itemsIn job = itemsOf (reading job)
 abbrev pub matterIn : List ℕ → Matter
 matterIn job = matterOf (headIn job) (itemsIn job)
 
--- The longest job, 43,008 bytes: 5 + 36,000 + 7,000 + 3.
+-- The longest job, 43,008 bytes: 5 + 36,000 + 7,000 + 3. Refusal 1 holds a job against it.
 abbrev pub longest : List ℕ → ℕ
 longest job = 43008
 
--- The places of the record table and of the work table that are named.
+-- The named places: 4,000 of the record table, 32,768 of the work table. Refusal 2 holds the tables against them.
 abbrev pub namedPlaces : ℕ
 namedPlaces = 4000
 

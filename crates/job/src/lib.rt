@@ -50,19 +50,19 @@ pub enum Kind {
     Unknown,
 }
 
-// A note: what the job notes beside its questions.
+// A note of the job, which is `Note` in specs/Items: a record.
 pub enum Line {
     Equation(Tag, Tag),
     Application(Tag, Tag, Tag),
 }
 
-// A question.
+// A question of the job, which is `Question` in specs/Items.
 pub enum Query {
     Ask(Tag, Tag),
     Explain(Tag, Tag),
 }
 
-// What stands at a place of a job.
+// What stands at a place of a job. A new kind is a new `Line` or `Query`: here the cases stay these five.
 pub enum Field {
     Bad(Fault),
     Header(u16),
@@ -86,6 +86,7 @@ fn kind_at(at: usize, byte: u8) -> Kind
     }
 }
 
+// The kind that a byte names behind the first field.
 fn later_kind(byte: u8) -> Kind
     ensures { λ r. ⌜ kindOf r ≡ laterKind byte ⌝ }
 {
@@ -99,6 +100,7 @@ fn later_kind(byte: u8) -> Kind
     }
 }
 
+// Whether a byte named a kind of the table.
 fn is_known(kind: Kind) -> bool
     ensures { λ r. ⌜ r ≡ known (kindOf kind) ⌝ }
 {
@@ -170,7 +172,7 @@ fn meant(kind: Kind, a: u16, b: u16, c: u16) -> Field
     }
 }
 
-// The body of a kind.
+// The field of a kind whose body stands at a place, by the body's numbers.
 fn body(job: &[u8], at: usize, kind: Kind) -> Field
     requires { ⌜ at ≤ length (now job) ⌝ }
     ensures { λ r. ⌜ said r ≡ bodyAt (now (job .entry)) at (kindOf kind) ⌝ }

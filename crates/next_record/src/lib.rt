@@ -1,4 +1,4 @@
-// The records of a job as the cursor meets them: the next one at a place, behind the questions that stand there, as it stands in the record
+// The records of a job as the cursor meets them: the next one at a place, with what is no record passed over, as it stands in the record
 // table. Document 01, "The job and the report". Rests on meaning, job and records.
 ghost use mathlib.Core.Path.{_≡_};
 ghost use Rattle.meaning.specs.Following.{eq, app};
@@ -14,8 +14,8 @@ use job::read;
 use meaning::Tag;
 use records::Record;
 
-// What the cursor found at a place: a question, which is passed over, or a record as it stands in the record table; and where the
-// next field stands.
+// What the cursor found at a place: a field that is passed over (the first one, a question or a note that stands for no record: `question`
+// is true for each), or a record as it stands in the record table; and where the next field stands.
 pub struct Found {
     pub question: bool,
     pub place: Record,
@@ -94,7 +94,7 @@ fn look(job: &[u8], at: usize) -> Found
     }
 }
 
-// The first record at a place or behind the questions that stand there.
+// The first record at a place or behind the fields there that are passed over.
 pub fn next_record(job: &[u8], at: usize) -> Found
     ensures { λ r. ⌜ Seeks (now (job .entry)) at r ⌝ }
 {
