@@ -1,62 +1,69 @@
 -- From one item of the job to the next: what stands in the room goes on making a sound report of whatever is one of the items left.
--- A record changes nothing but the count, and a question adds its field.
+-- A note changes nothing but the moment, and a question adds its field.
 -- Assumes nothing.
-use Prim.Native.Nat.{ℕ, _+_, _*_, _-_, _≤_, _<_, min}
-use native.Mathlib.Numerals.{add-one}
+use Prim.Native.Nat.{ℕ, _+_, _≤_, _<_}
 use native.Mathlib.Omega.{arith}
 use mathlib.Core.Path.{_≡_, refl, sym, _∙_, ap}
 use mathlib.Core.Bool.{true, false}
 use mathlib.Core.List.{List, [], _∷_, _++_, append-assoc}
 use lib.ListN.{length, length-append}
-use Rattle.meaning.specs.Following.{Rec, eq, app}
-use Rattle.job.specs.Items.{Item, noted, ask, explain, recordsOf, neededRoom}
-use Rattle.job.specs.Reading.{Field, bad, header, item, end, fieldAt, itemsIn}
-use Rattle.job.specs.Answer.{spanOfField}
-use Rattle.job.specs.Standing.{Stands, Met}
+use Rattle.job.specs.Items.{Head, Note, standsFor, Moment, start, after, Question, roomOf, Item, noted, posed, recordsOf, neededRoom}
+use Rattle.job.specs.Reading.{Field, bad, header, item, end, behindAt, fieldAt, headIn, itemsIn, matterIn}
+use Rattle.job.specs.Standing.{Met}
+use Rattle.job.proofs.Items.{stands-few}
 use Rattle.job.proofs.Standing.{stands-item, stands-end, stands-first, stands-last, stands-within}
-use Rattle.table.specs.Map.{Within}
+use Rattle.table.specs.Map.{recordsIn, Within}
 use Rattle.table.proofs.Frame.{within-refl, within-trans}
-use Rattle.report.specs.Report.{passed, answered, laid}
-use Rattle.report.proofs.Fits.{roomFor, answers-fits}
+use Rattle.report.specs.Report.{Answers, passed, answered, Known, afterRecords, laid}
+use Rattle.report.proofs.Fits.{answers-fits}
+use Rattle.report.proofs.Known.{room-known}
 use Rattle.report.proofs.Laid.{length-laid, laid-none, laid-then}
 use Rattle.meeting.proofs.Kept.{kept-past, kept-records}
 use Rattle.ask_field.specs.Facing.{Facing, Answered}
-use Rattle.answers.specs.Asking.{itemSaid, isEnd, Asking, Meeting, Stepped, passes, asks, explains, Midway, Told}
+use Rattle.answers.specs.Asking.{isEnd, Asking, Meeting, note-met, question-met, Onward, onward, Stepped, passes, answers, Midway, Told}
 
 -- What a field of the job leads to, by what it is.
-pub span-most : (f : Field) → spanOfField f ≤ 9
-span-most (bad n) = omega arith
-span-most (header n) = omega arith
-span-most (item (noted (eq a b))) = omega arith
-span-most (item (noted (app a b c))) = omega arith
-span-most (item (ask s t)) = omega arith
-span-most (item (explain s t)) = omega arith
-span-most end = omega arith
+module _ {w room : List ℕ} {N len next out before : ℕ} where
+  pub note-passed : (f : Field) (n : Note) (k : ℕ) → f ≡ item (noted n) → k ≡ length (standsFor n) → Onward w room N len next out before next out (before + k) w room f
+  note-passed f n k i e = rw (i, e) (onward passes)
 
-module _ (w room : List ℕ) (N len at out before : ℕ) (f : Field) (n : ℕ) (e : n ≡ spanOfField f) where
-  pub record-passed : (r : Rec) → f ≡ item (noted r) → Stepped w room N len at out before (itemSaid f) (at + n) out (before + 1) w room
-  record-passed r i = rw (e, i, add-one) passes
+  pub question-stepped : (f : Field) (q : Question) (end : ℕ) (w′ room′ : List ℕ) → f ≡ item (posed q) → Answered w room N len before out q w′ room′ end → Onward w room N len next out before next end before w′ room′ f
+  question-stepped f q l w′ room′ i a = rw i (onward (answers a))
 
-  pub ask-stepped : (s t end : ℕ) (w′ room′ : List ℕ) → f ≡ item (ask s t) → Answered w room N len before out (ask s t) w′ room′ end → Stepped w room N len at out before (itemSaid f) (at + n) end before w′ room′
-  ask-stepped s t l w′ room′ i a = rw (e, i) (asks a)
+-- Every step goes behind the field.
+stepped-to : {w room : List ℕ} {N len next out before : ℕ} {i : Item} {at′ out′ before′ : ℕ} {w′ room′ : List ℕ} → Stepped w room N len next out before i at′ out′ before′ w′ room′ → at′ ≡ next
+stepped-to passes = refl
+stepped-to (answers a) = refl
 
-  pub explain-stepped : (s t end : ℕ) (w′ room′ : List ℕ) → f ≡ item (explain s t) → Answered w room N len before out (explain s t) w′ room′ end → Stepped w room N len at out before (itemSaid f) (at + n) end before w′ room′
-  explain-stepped s t l w′ room′ i a = rw (e, i) (explains a)
+-- What was met: a note, a question, or nothing else.
+module _ {w room : List ℕ} {N len joins out before : ℕ} where
+  pub met-note : (f : Field) (n : Note) → Meeting w room N len joins out before f → f ≡ item (noted n) → before + length (standsFor n) < 65536
+  met-note f n (note-met {n = n′} h) e = let z : n′ ≡ n = cc in rw (← z) h
+  met-note f n (question-met h) e = let z : _≡_ {A = ℕ} 0 1 = cc in absurd (omega arith)
 
-pub bad-no-item : {n : ℕ} {i : Item} (f : Field) → f ≡ item i → f ≡ bad n → ⊥
-bad-no-item f e g = let z : _≡_ {A = ℕ} 0 1 = cc in omega arith
+  pub met-question : (f : Field) (q : Question) → Meeting w room N len joins out before f → f ≡ item (posed q) → Facing w room N len joins before out q
+  met-question f q (note-met h) e = let z : _≡_ {A = ℕ} 0 1 = cc in absurd (omega arith)
+  met-question f q (question-met {q = q′} h) e = let z : q′ ≡ q = cc in rw (← z) h
 
-pub header-no-item : {n : ℕ} {i : Item} (f : Field) → f ≡ item i → f ≡ header n → ⊥
-header-no-item f e g = let z : _≡_ {A = ℕ} 0 1 = cc in omega arith
+  pub met-bad : {n : ℕ} (f : Field) → Meeting w room N len joins out before f → f ≡ bad n → ⊥
+  met-bad f (note-met h) e = let z : _≡_ {A = ℕ} 0 1 = cc in omega arith
+  met-bad f (question-met h) e = let z : _≡_ {A = ℕ} 0 1 = cc in omega arith
 
-pub end-no-item : {i : Item} (f : Field) → f ≡ item i → f ≡ end → ⊥
-end-no-item f e g = let z : _≡_ {A = ℕ} 0 1 = cc in omega arith
+  pub met-header : {n : Head} (f : Field) → Meeting w room N len joins out before f → f ≡ header n → ⊥
+  met-header f (note-met h) e = let z : _≡_ {A = ℕ} 0 1 = cc in omega arith
+  met-header f (question-met h) e = let z : _≡_ {A = ℕ} 0 1 = cc in omega arith
 
-pub midway-begin : (job w room : List ℕ) (N len joins : ℕ) → Asking job w N len joins → neededRoom N 0 (itemsIn job) ≤ length room → Midway job w room N len joins 5 0 0 w room
-midway-begin job w room N len joins a h = record {
+  pub met-end : (f : Field) → Meeting w room N len joins out before f → f ≡ end → ⊥
+  met-end f (note-met h) e = let z : _≡_ {A = ℕ} 0 1 = cc in omega arith
+  met-end f (question-met h) e = let z : _≡_ {A = ℕ} 0 1 = cc in omega arith
+
+pub midway-begin : (job w room : List ℕ) (N len joins at : ℕ) → at ≡ behindAt job 0 → Asking job w N len joins → neededRoom (headIn job) start (itemsIn job) ≤ length room → Midway job w room N len joins at 0 0 w room
+midway-begin job w room N len joins at e a h = record {
   asking = a;
   rest = itemsIn job;
-  stands = a .stands .stands;
+  stands = rw e (a .stands .stands);
+  moment = start;
+  passed = refl;
   counted = omega (arith, a .few);
   bytes = [];
   sound = λ bs s. s;
@@ -67,33 +74,29 @@ midway-begin job w room N len joins a h = record {
 }
 
 module _ (job w room : List ℕ) (N len joins at out before : ℕ) (w′ room′ : List ℕ) (m : Midway job w room N len joins at out before w′ room′) where
-  met-here : (i : Item) → fieldAt job at ≡ item i → Met job N at i (m .rest)
-  met-here i e = stands-item job N at i (m .rest) (m .stands) e
+  met-here : (i : Item) → fieldAt job at ≡ item i → Met job (headIn job .size) at i (m .rest)
+  met-here i e = stands-item job (headIn job .size) at i (m .rest) (m .stands) e
 
   pub room-length : length room′ ≡ length room
   room-length = ap length (m .front) ∙ length-laid 0 (m .bytes) room (omega (arith, m .reached, m .fits))
 
-  -- The room that the first item needs is part of what the rest needs.
-  first-room : (i : Item) (is : List Item) → before + length (recordsOf (i ∷ is)) ≡ len → out + neededRoom N before (i ∷ is) ≤ length room → (before ≤ len) × (out + roomFor N before i ≤ length room)
-  first-room (noted r) is c h = (omega arith, omega arith)
-  first-room (ask s t) is c h = (omega arith, omega arith)
-  first-room (explain s t) is c h = (omega arith, omega arith)
-
-  pub midway-facing : (i : Item) → fieldAt job at ≡ item i → Facing w′ room′ N len joins before out i
-  midway-facing i e =
-      let k = met-here i e in
-      let c : before + length (recordsOf (i ∷ k .rest)) ≡ len = rw (k .first) at (m .counted) in
-      let h : out + neededRoom N before (i ∷ k .rest) ≤ length room = rw (k .first) at (m .fits) in
-      let b = first-room i (k .rest) c h in
-      record { past = m .asking .past; passed = b .0; tags = k .tags; fits = rw room-length (b .1) }
+  -- A question that stands here can be faced: the room that it needs is part of what the rest needs.
+  midway-facing : (q : Question) → fieldAt job at ≡ item (posed q) → Facing w′ room′ N len joins before out q
+  midway-facing q e =
+      let k = met-here (posed q) e in
+      let c : before + length (recordsOf (k .rest)) ≡ len = rw (k .first) at (m .counted) in
+      let h : out + (roomOf (headIn job) (m .moment) q + neededRoom (headIn job) (after (posed q) (m .moment)) (k .rest)) ≤ length room = rw (k .first) at (m .fits) in
+      let f : out + roomOf (headIn job) (m .moment) q ≤ length room = omega arith in
+      let g : out + roomOf (record { size = N }) (afterRecords before) q ≤ length room = omega (arith, room-known (headIn job) (m .moment) N before q (m .asking .size) (m .passed)) in
+      record { past = m .asking .past; passed = omega arith; tags = rw (m .asking .size) at (k .tags); fits = rw room-length g }
 
   pub midway-told : fieldAt job at ≡ end → Told job w room N len joins w′ room′ out
   midway-told e =
-      let none : m .rest ≡ [] = stands-end job N at (m .rest) (m .stands) e in
-      let all : before ≡ len = omega (arith, ap (λ (is : List Item). length (recordsOf is)) none, m .counted) in
+      let none : m .rest ≡ [] = stands-end job (headIn job .size) at (m .rest) (m .stands) e in
       record {
+        moment = m .moment;
         bytes = m .bytes;
-        sound = λ bs s. m .sound bs (rw (none, all) s);
+        sound = λ bs s. m .sound bs (rw none s);
         reached = m .reached;
         front = m .front;
         fits = rw none at (m .fits);
@@ -101,35 +104,23 @@ module _ (job w room : List ℕ) (N len joins at out before : ℕ) (w′ room′
       }
 
   asking-on : (w″ : List ℕ) → Within 17003 32096 w′ w″ → Asking job w″ N len joins
-  asking-on w″ f = record { stands = m .asking .stands; short = m .asking .short; few = m .asking .few; records = kept-records f len ∙ m .asking .records; past = kept-past f (m .asking .past) }
+  asking-on w″ f = record { stands = m .asking .stands; size = m .asking .size; short = m .asking .short; few = m .asking .few; records = kept-records f len ∙ m .asking .records; past = kept-past f (m .asking .past) }
 
-  -- A question's field goes behind the bytes that are there.
-  answer-on : (q : Item) (need span : ℕ) (w″ room″ : List ℕ) (end : ℕ) (is : List Item) → recordsOf (q ∷ is) ≡ recordsOf is → neededRoom N before (q ∷ is) ≡ need + neededRoom N before is → roomFor N before q ≤ need
-      → m .rest ≡ q ∷ is → Stands job N (at + span) is → Answered w′ room′ N len before out q w″ room″ end → Midway job w room N len joins (at + span) end before w″ room″
-  answer-on q need span w″ room″ e′ is r n l first s a =
-      let fit : length (a .field) ≤ need = omega (arith, answers-fits (a .right)) in
-      let h : out + (need + neededRoom N before is) ≤ length room = omega (arith, n, ap (neededRoom N before) first, m .fits) in
-      record {
-        asking = asking-on w″ (a .kept);
-        rest = is;
-        stands = s;
-        counted = omega (arith, ap length r, ap (λ (x : List Item). length (recordsOf x)) first, m .counted);
-        bytes = m .bytes ++ a .field;
-        sound = λ bs v. rw append-assoc (m .sound (a .field ++ bs) (rw first (answered (rw (m .asking .records) at (a .right)) v)));
-        reached = a .reached ∙ rw (length-append, m .reached);
-        front = a .front ∙ laid-then 0 out (m .bytes) (a .field) room room′ (omega (arith, m .reached)) (omega (arith, m .reached)) (m .front);
-        fits = omega (arith, a .reached);
-        kept = within-trans (m .kept) (a .kept);
-      }
+  -- What the table knows of the job at this moment.
+  known : Known (matterIn job) (m .moment) N (recordsIn len w′) before
+  known = record { size = m .asking .size; records = sym (m .asking .records); before = m .passed }
 
-  pub midway-on : (i : Item) (at″ out″ before″ : ℕ) (w″ room″ : List ℕ) → fieldAt job at ≡ item i → Stepped w′ room′ N len at out before i at″ out″ before″ w″ room″ → Midway job w room N len joins at″ out″ before″ w″ room″
-  midway-on i at″ out″ before″ w″ room″ e (passes {r = r}) =
-      let k = met-here (noted r) e in
+  -- A note changes nothing but the moment, and a question's field goes behind the bytes that are there.
+  midway-step : (i : Item) (at″ out″ before″ : ℕ) (w″ room″ : List ℕ) → fieldAt job at ≡ item i → Stepped w′ room′ N len (behindAt job at) out before i at″ out″ before″ w″ room″ → Midway job w room N len joins at″ out″ before″ w″ room″
+  midway-step i at″ out″ before″ w″ room″ e (passes {n = n}) =
+      let k = met-here (noted n) e in
       record {
         asking = m .asking;
         rest = k .rest;
         stands = k .onward;
-        counted = let c : before + length (recordsOf (noted r ∷ k .rest)) ≡ len = rw (k .first) at (m .counted) in omega arith;
+        moment = after (noted n) (m .moment);
+        passed = ap (λ (x : ℕ). x + length (standsFor n)) (m .passed);
+        counted = let c : before + length (recordsOf (noted n ∷ k .rest)) ≡ len = rw (k .first) at (m .counted) in omega (arith, length-append (standsFor n) (recordsOf (k .rest)));
         bytes = m .bytes;
         sound = λ bs s. m .sound bs (rw (k .first) (passed s));
         reached = m .reached;
@@ -137,46 +128,64 @@ module _ (job w room : List ℕ) (N len joins at out before : ℕ) (w′ room′
         fits = rw (k .first) at (m .fits);
         kept = m .kept;
       }
-  midway-on i at″ out″ before″ w″ room″ e (asks {s = s} {t = t} {end = e′} a) =
-      let k = met-here (ask s t) e in
-      answer-on (ask s t) 7 7 w″ room″ e′ (k .rest) refl refl (omega arith) (k .first) (k .onward) a
-  midway-on i at″ out″ before″ w″ room″ e (explains {s = s} {t = t} {end = e′} a) =
-      let k = met-here (explain s t) e in
-      answer-on (explain s t) (3 + 2 * min before (2 * (N - 1))) 7 w″ room″ e′ (k .rest) refl refl (omega arith) (k .first) (k .onward) a
+  midway-step i at″ out″ before″ w″ room″ e (answers {q = q} a) =
+      let k = met-here (posed q) e in
+      let right : Answers (matterIn job) (m .moment) q (a .field) = a .right (matterIn job) (m .moment) known in
+      let fit : length (a .field) ≤ roomOf (headIn job) (m .moment) q = answers-fits right in
+      let h : out + (roomOf (headIn job) (m .moment) q + neededRoom (headIn job) (after (posed q) (m .moment)) (k .rest)) ≤ length room = rw (k .first) at (m .fits) in
+      record {
+        asking = asking-on w″ (a .kept);
+        rest = k .rest;
+        stands = k .onward;
+        moment = after (posed q) (m .moment);
+        passed = m .passed;
+        counted = rw (k .first) at (m .counted);
+        bytes = m .bytes ++ a .field;
+        sound = λ bs v. rw append-assoc (m .sound (a .field ++ bs) (rw (k .first) (answered right v)));
+        reached = a .reached ∙ rw (length-append, m .reached);
+        front = a .front ∙ laid-then 0 out (m .bytes) (a .field) room room′ (omega (arith, m .reached)) (omega (arith, m .reached)) (m .front);
+        fits = omega (arith, a .reached);
+        kept = within-trans (m .kept) (a .kept);
+      }
+
+  pub midway-on : (f : Field) (n at″ out″ before″ : ℕ) (w″ room″ : List ℕ) → f ≡ fieldAt job at → n ≡ behindAt job at → Onward w′ room′ N len n out before at″ out″ before″ w″ room″ f → Midway job w room N len joins at″ out″ before″ w″ room″
+  midway-on f n at″ out″ before″ w″ room″ e i (onward {i = j} s) = midway-step j at″ out″ before″ w″ room″ (sym e) (rw i at s)
 
   -- A field that is not the end is an item, and can be met.
-  pub midway-meeting : (f : Field) → f ≡ fieldAt job at → isEnd f ≡ false → Meeting w′ room′ N len joins at out before f
+  pub midway-meeting : (f : Field) → f ≡ fieldAt job at → isEnd f ≡ false → Meeting w′ room′ N len joins out before f
   midway-meeting f e n = go (m .rest) refl
     where
-      go : (is : List Item) → m .rest ≡ is → Meeting w′ room′ N len joins at out before f
+      faced : (i : Item) → fieldAt job at ≡ item i → Meeting w′ room′ N len joins out before (item i)
+      faced (noted n) h = note-met {n = n} (omega (arith, m .counted, m .asking .past .loaded .most, stands-few n))
+      faced (posed q) h = question-met (midway-facing q h)
+
+      go : (is : List Item) → m .rest ≡ is → Meeting w′ room′ N len joins out before f
       go [] q =
-          let e′ : f ≡ end = e ∙ stands-last job N at (rw q at (m .stands)) in
+          let e′ : f ≡ end = e ∙ stands-last job (headIn job .size) at (rw q at (m .stands)) in
           let t : true ≡ false = ap isEnd (sym e′) ∙ n in
           let z : _≡_ {A = ℕ} 0 1 = cc in
           absurd (omega arith)
       go (i ∷ is) q =
-          let i′ : fieldAt job at ≡ item i = stands-first job N at i is (rw q at (m .stands)) in
-          let e′ : f ≡ item i = e ∙ i′ in
-          record {
-            place = omega (arith, stands-within job N at (m .rest) (m .stands), m .asking .short);
-            is = rw e′;
-            facing = rw e′ (midway-facing i i′);
-          }
+          let i′ : fieldAt job at ≡ item i = stands-first job (headIn job .size) at i is (rw q at (m .stands)) in
+          rw (e ∙ i′) (faced i i′)
 
   pub midway-ended : (f : Field) → f ≡ fieldAt job at → isEnd f ≡ true → Told job w room N len joins w′ room′ out
   midway-ended f e n = go (m .rest) refl
     where
       go : (is : List Item) → m .rest ≡ is → Told job w room N len joins w′ room′ out
-      go [] q = midway-told (stands-last job N at (rw q at (m .stands)))
+      go [] q = midway-told (stands-last job (headIn job .size) at (rw q at (m .stands)))
       go (i ∷ is) q =
-          let e′ : f ≡ item i = e ∙ stands-first job N at i is (rw q at (m .stands)) in
+          let e′ : f ≡ item i = e ∙ stands-first job (headIn job .size) at i is (rw q at (m .stands)) in
           let t : false ≡ true = ap isEnd (sym e′) ∙ n in
           let z : _≡_ {A = ℕ} 0 1 = cc in
           absurd (omega arith)
 
-  -- The place moves on, and stays within the job.
-  pub midway-closer : (i : Item) (at″ out″ before″ : ℕ) (w″ room″ : List ℕ) → fieldAt job at ≡ item i → Stepped w′ room′ N len at out before i at″ out″ before″ w″ room″ → (at < at″) × (at″ ≤ length job)
-  midway-closer i at″ out″ before″ w″ room″ e (passes {r = eq a b}) = (omega arith, met-here (noted (eq a b)) e .there)
-  midway-closer i at″ out″ before″ w″ room″ e (passes {r = app a b c}) = (omega arith, met-here (noted (app a b c)) e .there)
-  midway-closer i at″ out″ before″ w″ room″ e (asks {s = s} {t = t} a) = (omega arith, met-here (ask s t) e .there)
-  midway-closer i at″ out″ before″ w″ room″ e (explains {s = s} {t = t} a) = (omega arith, met-here (explain s t) e .there)
+  -- The place stands within the job, moves on, and stays within it.
+  pub midway-within : at ≤ length job
+  midway-within = omega (arith, stands-within job (headIn job .size) at (m .rest) (m .stands))
+
+  pub midway-closer : (f : Field) (n at″ out″ before″ : ℕ) (w″ room″ : List ℕ) → f ≡ fieldAt job at → n ≡ behindAt job at → Onward w′ room′ N len n out before at″ out″ before″ w″ room″ f → (at < at″) × (at″ ≤ length job)
+  midway-closer f n at″ out″ before″ w″ room″ e i (onward {i = j} s) =
+      let l : behindAt job at ≤ length job = met-here j (sym e) .there in
+      let g : at″ ≡ n = stepped-to s in
+      (omega arith, omega arith)

@@ -22,7 +22,7 @@ module _ {job room w : List ℕ} {N len : ℕ} (r : Ready job room w N len) {w�
   records-after = records-same (c .kept) len ∙ r .records
 
   pub asking-after : Asking job w₁ N len joins
-  asking-after = record { stands = r .stands; short = r .short; few = r .few; records = records-after; past = c .past }
+  asking-after = record { stands = r .stands; size = r .size; short = r .short; few = r .few; records = records-after; past = c .past }
 
   pub idle-few : idle ≤ 4000
   idle-few = omega (arith, idles-most (c .idles), length-gather (λ k. recAt w₁ (suc k)) len, r .loaded .most)
@@ -31,14 +31,14 @@ module _ {job room w : List ℕ} {N len : ℕ} (r : Ready job room w N len) {w�
     pub told-room : end + 7 ≤ length room₁
     told-room = omega (arith, ap length (t .front), length-laid 0 (t .bytes) room (omega (arith, t .reached, t .fits)), t .fits)
 
-    pub responded : (room₂ : List ℕ) → room₂ ≡ laid end (field 143 (numbers ((N - joins) ∷ idle ∷ []))) room₁ → Responded job room w N room₂ w₂ (end + 7)
+    pub responded : (room₂ : List ℕ) → room₂ ≡ laid end (field 143 (numbers ((N - joins) ∷ idle ∷ []))) room₁ → Responded job room w room₂ w₂ (end + 7)
     responded room₂ e =
         let body = numbers ((N - joins) ∷ idle ∷ []) in
         let f = field 143 body in
         let size : length f ≡ 7 = length-field 143 body ∙ rw (length-numbers ((N - joins) ∷ idle ∷ [])) (omega arith) in
         record {
           bytes = t .bytes ++ f;
-          sound = t .sound f (totals (total (rw (← r .few, ← records-after) (c .classes)) (rw (← records-after) (c .idles))));
+          sound = t .sound f (totals (total (rw (r .size, ← r .few, ← records-after) (c .classes)) (rw (r .size, ← records-after) (c .idles))));
           size = rw (length-append, size, t .reached);
           front = e ∙ laid-then 0 end (t .bytes) f room room₁ (omega (arith, t .reached, t .fits)) (omega (arith, t .reached)) (t .front) ∙ laid-front (t .bytes ++ f) room;
           kept = within-trans (within-wider 12003 32768 (omega arith) (omega arith) (c .kept)) (within-wider 12003 32768 (omega arith) (omega arith) (t .kept));

@@ -1,13 +1,12 @@
 -- Answering the questions of an accepted job, each by the records before it. Document 01, "The job and the report".
 -- Assumes nothing.
-use Prim.Native.Nat.{ℕ, suc, _+_, _≤_}
+use Prim.Native.Nat.{ℕ, _+_, _≤_, _<_}
 use mathlib.Core.Path.{_≡_}
 use mathlib.Core.Bool.{Bool, true, false}
 use mathlib.Core.List.{List, [], _++_}
 use lib.ListN.{length, drop}
-use Rattle.meaning.specs.Following.{Rec}
-use Rattle.job.specs.Items.{Item, noted, ask, explain, recordsOf, neededRoom}
-use Rattle.job.specs.Reading.{Field, bad, header, item, end, spanOf, itemsIn}
+use Rattle.job.specs.Items.{Note, standsFor, Moment, start, Question, Item, noted, posed, recordsOf, neededRoom}
+use Rattle.job.specs.Reading.{Field, bad, header, item, end, headIn, itemsIn, matterIn, longest}
 use Rattle.job.specs.Standing.{Stands, Job}
 use Rattle.table.specs.Map.{recordsIn, Loaded, Within}
 use Rattle.table.specs.Past.{Past}
@@ -16,30 +15,26 @@ use Rattle.ask_field.specs.Facing.{Facing, Answered}
 
 -- The job stands as N tags and its items, and the table holds the past of its records.
 pub record Asking (job w : List ℕ) (N len joins : ℕ) : Type 0 where
-  pub stands : Job job N (itemsIn job)
-  pub short : length job ≤ 43008
+  pub stands : Job job (headIn job) (itemsIn job)
+  pub size : headIn job .size ≡ N
+  pub short : length job ≤ longest job
   pub few : len ≡ length (recordsOf (itemsIn job))
   pub records : recordsIn len w ≡ recordsOf (itemsIn job)
   pub past : Past N len w joins
 
--- What meeting an item leads to: a record is passed and a question answered.
-pub data Stepped (w room : List ℕ) (N len at out before : ℕ) : Item → ℕ → ℕ → ℕ → List ℕ → List ℕ → Type 0 where
-  passes : {r : Rec} → Stepped w room N len at out before (noted r) (at + spanOf (noted r)) out (suc before) w room
-  asks : {s t end : ℕ} {w′ room′ : List ℕ} → Answered w room N len before out (ask s t) w′ room′ end → Stepped w room N len at out before (ask s t) (at + 7) end before w′ room′
-  explains : {s t end : ℕ} {w′ room′ : List ℕ} → Answered w room N len before out (explain s t) w′ room′ end → Stepped w room N len at out before (explain s t) (at + 7) end before w′ room′
+-- What meeting an item leads to: a note is passed and a question answered.
+pub data Stepped (w room : List ℕ) (N len next out before : ℕ) : Item → ℕ → ℕ → ℕ → List ℕ → List ℕ → Type 0 where
+  passes : {n : Note} → Stepped w room N len next out before (noted n) next out (before + length (standsFor n)) w room
+  answers : {q : Question} {end : ℕ} {w′ room′ : List ℕ} → Answered w room N len before out q w′ room′ end → Stepped w room N len next out before (posed q) next end before w′ room′
 
--- The item of a field of the job.
-abbrev pub itemSaid : Field → Item
-itemSaid (bad n) = ask 0 0
-itemSaid (header n) = ask 0 0
-itemSaid (item i) = i
-itemSaid end = ask 0 0
+-- A field that is an item is met: a note whose records can be counted, or a question.
+pub data Meeting (w room : List ℕ) (N len joins out before : ℕ) : Field → Type 0 where
+  note-met : {n : Note} → before + length (standsFor n) < 65536 → Meeting w room N len joins out before (item (noted n))
+  question-met : {q : Question} → Facing w room N len joins before out q → Meeting w room N len joins out before (item (posed q))
 
--- A field that is an item is met at a place.
-pub record Meeting (w room : List ℕ) (N len joins at out before : ℕ) (f : Field) : Type 0 where
-  pub place : at ≤ 43008
-  pub is : f ≡ item (itemSaid f)
-  pub facing : Facing w room N len joins before out (itemSaid f)
+-- What a field leads to that is an item.
+pub data Onward (w room : List ℕ) (N len next out before : ℕ) (at′ out′ before′ : ℕ) (w′ room′ : List ℕ) : Field → Type 0 where
+  onward : {i : Item} → Stepped w room N len next out before i at′ out′ before′ w′ room′ → Onward w room N len next out before at′ out′ before′ w′ room′ (item i)
 
 -- The end field.
 abbrev pub isEnd : Field → Bool
@@ -53,19 +48,22 @@ isEnd end = true
 pub record Midway (job w room : List ℕ) (N len joins at out before : ℕ) (w′ room′ : List ℕ) : Type 0 where
   pub asking : Asking job w′ N len joins
   pub rest : List Item
-  pub stands : Stands job N at rest
+  pub stands : Stands job (headIn job .size) at rest
+  pub moment : Moment
+  pub passed : moment .records ≡ before
   pub counted : before + length (recordsOf rest) ≡ len
   pub bytes : List ℕ
-  pub sound : (bs : List ℕ) → Sound N (recordsOf (itemsIn job)) before rest bs → Sound N (recordsOf (itemsIn job)) 0 (itemsIn job) (bytes ++ bs)
+  pub sound : (bs : List ℕ) → Sound (matterIn job) moment rest bs → Sound (matterIn job) start (itemsIn job) (bytes ++ bs)
   pub reached : out ≡ length bytes
   pub front : room′ ≡ laid 0 bytes room
-  pub fits : out + neededRoom N before rest ≤ length room
+  pub fits : out + neededRoom (headIn job) moment rest ≤ length room
   pub kept : Within 17003 32096 w w′
 
 -- All questions answered: the totals are left to write, at the end of what stands in the room.
 pub record Told (job w room : List ℕ) (N len joins : ℕ) (w′ room′ : List ℕ) (end : ℕ) : Type 0 where
+  pub moment : Moment
   pub bytes : List ℕ
-  pub sound : (bs : List ℕ) → Sound N (recordsOf (itemsIn job)) len [] bs → Sound N (recordsOf (itemsIn job)) 0 (itemsIn job) (bytes ++ bs)
+  pub sound : (bs : List ℕ) → Sound (matterIn job) moment [] bs → Sound (matterIn job) start (itemsIn job) (bytes ++ bs)
   pub reached : end ≡ length bytes
   pub front : room′ ≡ laid 0 bytes room
   pub fits : end + 7 ≤ length room
@@ -73,17 +71,18 @@ pub record Told (job w room : List ℕ) (N len joins : ℕ) (w′ room′ : List
 
 -- An accepted job of N tags whose len records stand in the table's columns, and a room that is as large as needed.
 pub record Ready (job room w : List ℕ) (N len : ℕ) : Type 0 where
-  pub short : length job ≤ 43008
-  pub stands : Job job N (itemsIn job)
+  pub short : length job ≤ longest job
+  pub stands : Job job (headIn job) (itemsIn job)
+  pub size : headIn job .size ≡ N
   pub few : len ≡ length (recordsOf (itemsIn job))
   pub loaded : Loaded N len w
   pub records : recordsIn len w ≡ recordsOf (itemsIn job)
-  pub fits : neededRoom N 0 (itemsIn job) ≤ length room
+  pub fits : neededRoom (headIn job) start (itemsIn job) ≤ length room
 
 -- A sound report of the job, so many bytes long, stands at the front of the room, and every byte behind it is as it was.
-pub record Responded (job room w : List ℕ) (N : ℕ) (room′ w′ : List ℕ) (n : ℕ) : Type 0 where
+pub record Responded (job room w : List ℕ) (room′ w′ : List ℕ) (n : ℕ) : Type 0 where
   pub bytes : List ℕ
-  pub sound : Sound N (recordsOf (itemsIn job)) 0 (itemsIn job) bytes
+  pub sound : Sound (matterIn job) start (itemsIn job) bytes
   pub size : n ≡ length bytes
   pub front : room′ ≡ bytes ++ drop (length bytes) room
   pub kept : Within 12003 32768 w w′

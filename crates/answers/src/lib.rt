@@ -3,16 +3,20 @@
 ghost use mathlib.Core.Path.{_≡_};
 ghost use Prim.Native.Nat.{ℕ, _+_, _*_, _-_, _≤_, _<_, min};
 ghost use lib.ListN.{length};
-ghost use Rattle.job.specs.Items.{neededRoom};
-ghost use Rattle.job.specs.Reading.{itemsIn};
-ghost use Rattle.job.specs.Answer.{said};
-ghost use Rattle.answers.specs.Asking.{itemSaid, isEnd, Asking, Meeting, Stepped, Told, Ready, Responded};
+ghost use Rattle.job.specs.Items.{start, neededRoom};
+ghost use Rattle.job.specs.Reading.{headIn, itemsIn};
+ghost use Rattle.job.specs.Answer.{questionSaid, said};
+ghost use Rattle.ask_field.specs.Facing.{Facing, Answered};
+ghost use Rattle.answers.specs.Asking.{isEnd, Asking, Meeting, Onward, Told, Ready, Responded};
 use ask_field::answer_ask;
 use explain_field::answer_explain;
 use history::close;
 use job::Field;
+use job::Query;
+use job::behind;
 use job::read;
-use job::span;
+use job::stands_for;
+use job::wide;
 use question::Closed;
 use report_write::write_totals;
 
@@ -23,37 +27,48 @@ pub struct Spot {
     pub before: usize,
 }
 
-// One field of the job: a record is passed, a question answered.
-fn answer_field(field: Field, room: &mut [u8], work: &mut [u16], c: Closed, p: Spot) -> Spot
-    requires { ⌜ Meeting (now work) (now room) (c .size) (c .len) (c .joins) (p .at) (p .out) (p .before) (said field) ⌝ }
-    ensures { λ r. ⌜ Stepped (now (work .entry)) (now (room .entry)) (c .size) (c .len) (p .at) (p .out) (p .before) (itemSaid (said field)) (r .at) (r .out) (r .before) (now (work .exit)) (now (room .exit)) ⌝ }
+// A question, as a field at a place of the room; the place behind it.
+fn answer_question(
+    q: Query,
+    room: &mut [u8],
+    work: &mut [u16],
+    c: Closed,
+    before: usize,
+    out: usize,
+) -> usize
+    requires { ⌜ Facing (now work) (now room) (c .size) (c .len) (c .joins) before out (questionSaid q) ⌝ }
+    ensures { λ end. ⌜ Answered (now (work .entry)) (now (room .entry)) (c .size) (c .len) before out (questionSaid q) (now (work .exit)) (now (room .exit)) end ⌝ }
 {
-    let at = p.at + span(field);
+    match q {
+        Query::Ask(s, t) => answer_ask(room, work, c, before, out, s, t),
+        Query::Explain(s, t) => answer_explain(room, work, c, before, out, s, t),
+    }
+}
+
+// One field of the job, with the place behind it: a note is passed, a question answered.
+fn answer_field(
+    field: Field,
+    room: &mut [u8],
+    work: &mut [u16],
+    c: Closed,
+    p: Spot,
+    next: usize,
+) -> Spot
+    requires { ⌜ Meeting (now work) (now room) (c .size) (c .len) (c .joins) (p .out) (p .before) (said field) ⌝ }
+    ensures { λ r. ⌜ Onward (now (work .entry)) (now (room .entry)) (c .size) (c .len) next (p .out) (p .before) (r .at) (r .out) (r .before) (now (work .exit)) (now (room .exit)) (said field) ⌝ }
+{
     let out = p.out;
     let before = p.before;
     match field {
-        Field::Equation(_, _) => Spot {
-            at,
+        Field::Noted(l) => Spot {
+            at: next,
             out,
-            before: before + 1,
+            before: before + wide(stands_for(l)),
         },
-        Field::Application(_, _, _) => Spot {
-            at,
-            out,
-            before: before + 1,
-        },
-        Field::Ask(s, t) => {
-            let end = answer_ask(room, work, c, before, out, s, t);
+        Field::Posed(q) => {
+            let end = answer_question(q, room, work, c, before, out);
             Spot {
-                at,
-                out: end,
-                before,
-            }
-        }
-        Field::Explain(s, t) => {
-            let end = answer_explain(room, work, c, before, out, s, t);
-            Spot {
-                at,
+                at: next,
                 out: end,
                 before,
             }
@@ -69,10 +84,8 @@ fn is_end(field: Field) -> bool
     ensures { λ r. ⌜ r ≡ isEnd (said field) ⌝ }
 {
     match field {
-        Field::Equation(_, _) => false,
-        Field::Application(_, _, _) => false,
-        Field::Ask(_, _) => false,
-        Field::Explain(_, _) => false,
+        Field::Noted(_) => false,
+        Field::Posed(_) => false,
         Field::Bad(_) => false,
         Field::Header(_) => false,
         Field::End => true,
@@ -81,11 +94,11 @@ fn is_end(field: Field) -> bool
 
 // All questions of the job; the place in the room behind the last answer.
 pub fn answer_all(job: &[u8], room: &mut [u8], work: &mut [u16], c: Closed) -> usize
-    requires { ⌜ Asking (now job) (now work) (c .size) (c .len) (c .joins) × (neededRoom (c .size) 0 (itemsIn (now job)) ≤ length (now room)) ⌝ }
+    requires { ⌜ Asking (now job) (now work) (c .size) (c .len) (c .joins) × (neededRoom (headIn (now job)) start (itemsIn (now job)) ≤ length (now room)) ⌝ }
     ensures { λ end. ⌜ Told (now (job .entry)) (now (work .entry)) (now (room .entry)) (c .size) (c .len) (c .joins) (now (work .exit)) (now (room .exit)) end ⌝ }
 {
     let mut p = Spot {
-        at: 5,
+        at: behind(job, 0),
         out: 0,
         before: 0,
     };
@@ -95,7 +108,7 @@ pub fn answer_all(job: &[u8], room: &mut [u8], work: &mut [u16], c: Closed) -> u
         if is_end(field) {
             return p.out;
         }
-        p = answer_field(field, room, work, c, p);
+        p = answer_field(field, room, work, c, p, behind(job, at));
     }
 }
 
@@ -103,7 +116,7 @@ pub fn answer_all(job: &[u8], room: &mut [u8], work: &mut [u16], c: Closed) -> u
 // Answers the report's length.
 pub fn respond(job: &[u8], room: &mut [u8], work: &mut [u16], size: usize, len: usize) -> usize
     requires { ⌜ Ready (now job) (now room) (now work) size len ⌝ }
-    ensures { λ n. ⌜ Responded (now (job .entry)) (now (room .entry)) (now (work .entry)) size (now (room .exit)) (now (work .exit)) n ⌝ }
+    ensures { λ n. ⌜ Responded (now (job .entry)) (now (room .entry)) (now (work .entry)) (now (room .exit)) (now (work .exit)) n ⌝ }
 {
     let t = close(work, size, len);
     let joins = t.joins;

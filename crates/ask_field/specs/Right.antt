@@ -6,7 +6,7 @@ use mathlib.Core.List.{List}
 use lib.ListN.{length, drop}
 use Rattle.job.specs.Items.{ask}
 use Rattle.table.specs.Map.{recordsIn}
-use Rattle.report.specs.Report.{Answers}
+use Rattle.report.specs.Report.{Answers, tabled, afterRecords}
 use Rattle.report.specs.Fault.{Stands}
 use Rattle.report_read.specs.Read.{Holds}
 use Rattle.question.specs.declared.Question.{Question}
@@ -20,4 +20,4 @@ pub data RightAt (P : List ℕ → Type 0) (report : List ℕ) (at : ℕ) : Pass
 
 -- The right fields for an ask, by the records that the table holds.
 abbrev pub AskAnswer : List ℕ → Question → List ℕ → Type 0
-AskAnswer w q = Answers (q .size) (recordsIn (q .len) w) (q .before) (ask (q .s .0) (q .t .0))
+AskAnswer w q = Answers (tabled (q .size) (recordsIn (q .len) w)) (afterRecords (q .before)) (ask (q .s .0) (q .t .0))

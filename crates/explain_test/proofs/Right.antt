@@ -21,7 +21,7 @@ use Rattle.table.specs.Past.{Past}
 use Rattle.meeting.specs.Meeting.{Met}
 use Rattle.meeting.proofs.Kept.{kept-records, kept-loaded}
 use Rattle.meeting.proofs.Moments.{met-join, met-first, met-later, met-never}
-use Rattle.report.specs.Report.{numbers, field, Answers, because, apart}
+use Rattle.report.specs.Report.{numbers, field, Answers, because, apart, tabled, afterRecords}
 use Rattle.report.specs.Fault.{Stands}
 use Rattle.report_read.specs.Read.{Holds, FrontAt, whole, none}
 use Rattle.reason_field.specs.Read.{ListRead}
@@ -54,14 +54,14 @@ module _ {N len n : ℕ} {w : List ℕ} (P : Past N len w n) (R s t : ℕ) (l : 
 
 -- An explain where the equality does not follow has one right field.
 module _ {N : ℕ} {rs : List Rec} {R s t : ℕ} (h : Follows (UpTo rs R) s t → ⊥) (report : List ℕ) (at : ℕ) where
-  apart-field : {f : List ℕ} → Answers N rs R (explain s t) f → f ≡ field 133 []
+  apart-field : {f : List ℕ} → Answers (tabled N rs) (afterRecords R) (explain s t) f → f ≡ field 133 []
   apart-field (because r) = absurd (h (reason-follows r))
   apart-field (apart _) = refl
 
-  pub apart-right : Holds report at (field 133 []) → RightAt (Answers N rs R (explain s t)) report at (To (at + 3))
+  pub apart-right : Holds report at (field 133 []) → RightAt (Answers (tabled N rs) (afterRecords R) (explain s t)) report at (To (at + 3))
   apart-right g = to {p = at + 3} (apart h) g (omega (arith, length-field 133 []))
 
-  pub apart-wrong : (Holds report at (field 133 []) → ⊥) → RightAt (Answers N rs R (explain s t)) report at Wrong
+  pub apart-wrong : (Holds report at (field 133 []) → ⊥) → RightAt (Answers (tabled N rs) (afterRecords R) (explain s t)) report at Wrong
   apart-wrong g = wrong (λ x. let r = found report at x in g (rw (apart-field (r .is)) at (r .holds)))
 
 pub apart-room : (report : List ℕ) (at : ℕ) → at ≤ length report → Holds report at (field 133 []) → at + 3 ≤ length report
@@ -73,7 +73,7 @@ record Because (N : ℕ) (rs : List Rec) (R s t : ℕ) (f : List ℕ) : Type 0 w
   reason : Reason N rs R s t list
   is : f ≡ field 132 (numbers list)
 
-because-field : {N : ℕ} {rs : List Rec} {R s t : ℕ} {f : List ℕ} → Follows (UpTo rs R) s t → Answers N rs R (explain s t) f → Because N rs R s t f
+because-field : {N : ℕ} {rs : List Rec} {R s t : ℕ} {f : List ℕ} → Follows (UpTo rs R) s t → Answers (tabled N rs) (afterRecords R) (explain s t) f → Because N rs R s t f
 because-field h (because {L = L} r) = record { list = L; reason = r; is = refl }
 because-field h (apart g) = absurd (g h)
 

@@ -9,7 +9,7 @@ use Rattle.meaning.specs.Following.{Rec, Follows, UpTo}
 use Rattle.meaning.specs.Reasons.{FirstAt, Reason}
 use Rattle.job.specs.Items.{explain}
 use Rattle.table.specs.Map.{recordsIn, Within}
-use Rattle.report.specs.Report.{numbers, Answers}
+use Rattle.report.specs.Report.{numbers, Answers, tabled, afterRecords}
 use Rattle.report_read.specs.Read.{Holds}
 use Rattle.question.specs.declared.Question.{Question}
 use Rattle.question.specs.Posed.{Posed}
@@ -23,7 +23,7 @@ pub record Came (rs : List Rec) (R s t k : ℕ) : Type 0 where
 
 -- The right fields for an explain, by the records that the table holds.
 abbrev pub ExplainAnswer : List ℕ → Question → List ℕ → Type 0
-ExplainAnswer w q = Answers (q .size) (recordsIn (q .len) w) (q .before) (explain (q .s .0) (q .t .0))
+ExplainAnswer w q = Answers (tabled (q .size) (recordsIn (q .len) w)) (afterRecords (q .before)) (explain (q .s .0) (q .t .0))
 
 -- A test that is right where it says A, and writes only where a reason is looked for.
 pub record Assuring (A : Type 0) (w w′ : List ℕ) (answer : Bool) : Type 0 where

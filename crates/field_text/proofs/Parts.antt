@@ -9,7 +9,7 @@ use lib.ListN.{length, getD, take, drop, length-take, drop-of-length-le}
 use lib.Seq.{slice, slice-cons, slice-empty, length-slice, take-all}
 use Rattle.job.specs.Reading.{numberAt}
 use borrow.Author.Tests.{eq-eqb, ne-eqb}
-use Rattle.line_text.specs.Line.{parted, line}
+use Rattle.line_text.specs.Line.{parted, line, askLine}
 use Rattle.line_text.proofs.Parted.{parted-append}
 use Rattle.field_text.specs.Fields.{numbersIn, bodyOf, explainLine}
 
@@ -66,3 +66,10 @@ explainLine-reason s t kind ns e = rw (eq-eqb kind 132 e)
 pub explainLine-none : (s t kind : ℕ) (ns : List ℕ) → (kind ≡ 132 → ⊥) → line 78 (s ∷ t ∷ []) ≡ explainLine s t kind ns
 unfolding explainLine
 explainLine-none s t kind ns e = rw (ne-eqb kind 132 e)
+
+-- The lines over equal numbers are one: as lemmas, since the search for them among all that is known takes seconds.
+pub ask-as : {s s′ t t′ l l′ m m′ : ℕ} → s ≡ s′ → t ≡ t′ → l ≡ l′ → m ≡ m′ → askLine s t l m ≡ askLine s′ t′ l′ m′
+ask-as p q u v = cc
+
+pub explain-as : {s s′ t t′ : ℕ} (b : ℕ) (ns : List ℕ) → s ≡ s′ → t ≡ t′ → explainLine s t b ns ≡ explainLine s′ t′ b ns
+explain-as b ns p q = cc

@@ -6,7 +6,7 @@ use mathlib.Core.Bool.{cond}
 use mathlib.Core.List.{List, [], _∷_}
 use lib.Dec.{eqb}
 use lib.ListN.{length, take, drop}
-use Rattle.job.specs.Items.{Item, noted, ask, explain}
+use Rattle.job.specs.Items.{Question, ask, explain, Item, noted, posed}
 use Rattle.job.specs.Reading.{Field, bad, header, item, end, byteAt, numberAt}
 use Rattle.line_text.specs.Line.{line, askLine}
 
@@ -24,17 +24,20 @@ bodyOf report = drop 3 (take (3 + numberAt report 1) report)
 unfoldable pub explainLine : ℕ → ℕ → ℕ → List ℕ → List ℕ
 explainLine s t kind ns = cond (eqb kind 132) (line 69 (s ∷ t ∷ length ns ∷ ns)) (line 78 (s ∷ t ∷ []))
 
--- The line of an item, with the report from the item's field on: a record has none. A body's first two numbers stand at 3 and 5.
-abbrev pub lineOf : Item → List ℕ → List ℕ
-lineOf (noted r) report = []
-lineOf (ask s t) report = askLine s t (numberAt report 3) (numberAt report 5)
-lineOf (explain s t) report = explainLine s t (byteAt report 0) (numbersIn (bodyOf report))
+-- The line of a question, with the report from its field on. A body's first two numbers stand at 3 and 5.
+abbrev pub questionLine : Question → List ℕ → List ℕ
+questionLine (ask s t) report = askLine s t (numberAt report 3) (numberAt report 5)
+questionLine (explain s t) report = explainLine s t (byteAt report 0) (numbersIn (bodyOf report))
 
--- The bytes of an item's field in the report: a question has one field, a record none.
+-- The line of an item: a note has none.
+abbrev pub lineOf : Item → List ℕ → List ℕ
+lineOf (noted n) report = []
+lineOf (posed q) report = questionLine q report
+
+-- The bytes of an item's field in the report: a question has one field, a note none.
 abbrev pub widthOf : Item → List ℕ → ℕ
-widthOf (noted r) report = 0
-widthOf (ask s t) report = 3 + numberAt report 1
-widthOf (explain s t) report = 3 + numberAt report 1
+widthOf (noted n) report = 0
+widthOf (posed q) report = 3 + numberAt report 1
 
 -- `T classes idle`.
 unfoldable pub totalsLine : List ℕ → List ℕ
@@ -45,10 +48,10 @@ abbrev pub textAt : Field → List ℕ → List ℕ
 textAt (item i) report = lineOf i report
 textAt end report = totalsLine report
 textAt (bad n) report = []
-textAt (header N) report = []
+textAt (header H) report = []
 
 abbrev pub widthAt : Field → List ℕ → ℕ
 widthAt (item i) report = widthOf i report
 widthAt end report = 0
 widthAt (bad n) report = 0
-widthAt (header N) report = 0
+widthAt (header H) report = 0

@@ -6,12 +6,13 @@ ghost use Prim.Native.Nat.{_+_, _≤_, min};
 ghost use lib.ListN.{length};
 ghost use lib.Seq.{slice};
 ghost use Rattle.job.specs.Reading.{byteAt, numberAt};
-ghost use Rattle.job.specs.Answer.{said};
+ghost use Rattle.job.specs.Answer.{questionSaid, said};
 ghost use Rattle.line_text.specs.Line.{parted, line};
 ghost use Rattle.digits.specs.Put.{Put};
-ghost use Rattle.field_text.specs.Fields.{numbersIn, bodyOf, explainLine, totalsLine, textAt, widthAt};
+ghost use Rattle.field_text.specs.Fields.{numbersIn, bodyOf, explainLine, questionLine, totalsLine, textAt, widthAt};
 use digits::put;
 use job::Field;
+use job::Query;
 use line_text::open_line;
 use line_text::put_ask;
 use line_text::put_pair;
@@ -123,6 +124,24 @@ fn shown(tag: Tag) -> usize
     wide(tag.0)
 }
 
+// The line of a question, with the report from its own answer on.
+fn put_question(q: Query, report: &[u8], out: &mut [u8], at: usize) -> usize
+    requires { ⌜ at ≤ length (now out) + 1 ⌝ }
+    ensures { λ r. ⌜ Put (questionLine (questionSaid q) (now (report .entry))) (now (out .entry)) at (now (out .exit)) r ⌝ }
+{
+    match q {
+        Query::Ask(s, t) => put_ask(
+            out,
+            at,
+            shown(s),
+            shown(t),
+            wide(number(report, 3)),
+            wide(number(report, 5)),
+        ),
+        Query::Explain(s, t) => put_explain(report, shown(s), shown(t), out, at),
+    }
+}
+
 // What a field of the job adds to the text, with the report from the field's own answer on.
 pub fn put_field(field: Field, report: &[u8], out: &mut [u8], at: usize) -> usize
     requires { ⌜ at ≤ length (now out) + 1 ⌝ }
@@ -131,17 +150,8 @@ pub fn put_field(field: Field, report: &[u8], out: &mut [u8], at: usize) -> usiz
     match field {
         Field::Bad(_) => at,
         Field::Header(_) => at,
-        Field::Equation(_, _) => at,
-        Field::Application(_, _, _) => at,
-        Field::Ask(s, t) => put_ask(
-            out,
-            at,
-            shown(s),
-            shown(t),
-            wide(number(report, 3)),
-            wide(number(report, 5)),
-        ),
-        Field::Explain(s, t) => put_explain(report, shown(s), shown(t), out, at),
+        Field::Noted(_) => at,
+        Field::Posed(q) => put_question(q, report, out, at),
         Field::End => put_totals(report, out, at),
     }
 }
@@ -153,10 +163,8 @@ pub fn passed(field: Field, report: &[u8]) -> usize
     match field {
         Field::Bad(_) => 0,
         Field::Header(_) => 0,
-        Field::Equation(_, _) => 0,
-        Field::Application(_, _, _) => 0,
-        Field::Ask(_, _) => width(report),
-        Field::Explain(_, _) => width(report),
+        Field::Noted(_) => 0,
+        Field::Posed(_) => width(report),
         Field::End => 0,
     }
 }

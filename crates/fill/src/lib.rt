@@ -19,7 +19,7 @@ pub fn fill(job: &[u8], records: &mut [Record], n: usize)
     requires { ⌜ n ≤ length (now records) ⌝ }
     ensures { λ _. ⌜ Filled (now (job .entry)) n (now (records .entry)) (now (records .exit)) ⌝ }
 {
-    let mut at = 5;
+    let mut at = 0;
     let mut i = 0;
     while i < n {
         let found = next_record(job, at);

@@ -8,10 +8,9 @@ use mathlib.Core.Bool.{true, false}
 use mathlib.Core.Logic.{_⊎_, inl, inr}
 use mathlib.Core.List.{List}
 use lib.ListN.{length}
-use Rattle.job.specs.Items.{Item, accepted, itemsOf, recordsOf, neededRoom}
-use Rattle.job.specs.Reading.{reading, itemsIn}
-use Rattle.job.specs.Standing.{Job}
-use Rattle.job.proofs.Standing.{accepted-stands}
+use Rattle.job.specs.Items.{Item, start, matterOf, Reading, accepted, headOf, itemsOf, recordsOf, neededRoom}
+use Rattle.job.specs.Reading.{reading, itemsIn, namedNumbers}
+use Rattle.job.proofs.Standing.{job-stands}
 use Rattle.table.proofs.Frame.{within-wider}
 use Rattle.report.specs.Report.{Sound}
 use Rattle.answers.specs.Asking as a
@@ -50,7 +49,7 @@ looked-refused room s (l.viewed h (l.unread e)) q x = f.unread refl e (returned-
 looked-refused room s (l.viewed h (l.ready e)) q x = let z : _≡_ {A = ℕ} 0 1 = cc in absurd (omega arith)
 
 -- The work table is as long as named where it is cleared.
-pub fitted-long : {job w : List ℕ} {room : ℕ} {s : Sight} → Begun job w s → (r : Sight) → Fitted s room r → (r .lent ≡ true) ⊎ (r .ready ≡ true) → 32768 ≤ length w
+pub fitted-long : {job w : List ℕ} {room : ℕ} {s : Sight} → Begun job w s → (r : Sight) → Fitted s room r → (r .lent ≡ true) ⊎ (r .ready ≡ true) → namedNumbers ≤ length w
 fitted-long {s = s} h r (f.cramped k) o = looked-lent s (h .looked) (ready-lent s (h .looked) (needed-ready s (h .looked) k)) .enough .numbers
 fitted-long {s = s} h r (f.roomy k) (inl q) = looked-lent s (h .looked) q .enough .numbers
 fitted-long {s = s} h r (f.roomy k) (inr q) = looked-lent s (h .looked) (ready-lent s (h .looked) q) .enough .numbers
@@ -67,27 +66,28 @@ module _ (job room w : List ℕ) (s : Sight) (h : Begun job w s) where
     seen : Ready job s
     seen = looked-ready s (h .looked) (o .ready)
 
-    is : reading job ≡ accepted (s .size) (seen .items)
+    is : reading job ≡ accepted (seen .head) (seen .items)
     is = seen .reads
 
     same : itemsIn job ≡ seen .items
     same = ap itemsOf is
 
-    enough : neededRoom (s .size) 0 (seen .items) ≤ length room
+    enough : neededRoom (seen .head) start (seen .items) ≤ length room
     enough = omega (arith, seen .needed, o .fits)
 
     pub finish-asks : a.Ready job room w (s .size) (s .records)
     finish-asks = record {
       short = looked-lent s (h .looked) (ready-lent s (h .looked) (o .ready)) .enough .short;
-      stands = subst (Job job (s .size)) (sym same) (accepted-stands job (s .size) (seen .items) is);
+      stands = job-stands job (seen .head) (seen .items) is;
+      size = ap (λ (x : Reading). headOf x .size) is ∙ seen .size;
       few = seen .records ∙ ap (λ (x : List Item). length (recordsOf x)) (sym same);
       loaded = h .loaded (o .ready);
-      records = h .columns (s .size) (seen .items) is (o .ready) ∙ ap recordsOf (sym same);
-      fits = subst (λ (x : List Item). neededRoom (s .size) 0 x ≤ length room) (sym same) enough;
+      records = h .columns (seen .head) (seen .items) is (o .ready) ∙ ap recordsOf (sym same);
+      fits = subst (λ (x : Reading). neededRoom (headOf x) start (itemsOf x) ≤ length room) (sym is) enough;
     }
 
-    pub finish-done : (room′ w′ w″ : List ℕ) (n : ℕ) → Responded job room w (s .size) room′ w′ n → Returned true w′ w″ → Finished job room w s 0 0 n room′ w″
+    pub finish-done : (room′ w′ w″ : List ℕ) (n : ℕ) → Responded job room w room′ w′ n → Returned true w′ w″ → Finished job room w s 0 0 n room′ w″
     finish-done room′ w′ w″ n d x =
         rw (d .size, d .front)
-        (f.done (ready-lent s (h .looked) (o .ready)) is enough (subst (λ (y : List Item). Sound (s .size) (recordsOf y) 0 y (d .bytes)) same (d .sound))
+        (f.done (ready-lent s (h .looked) (o .ready)) is enough (subst (λ (x : Reading). Sound (matterOf (headOf x) (itemsOf x)) start (itemsOf x) (d .bytes)) is (d .sound))
         (cleared-after (within-wider 0 32768 (omega arith) (omega arith) (d .kept)) (returned-true x refl)))

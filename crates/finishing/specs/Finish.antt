@@ -6,7 +6,7 @@ use mathlib.Core.Path.{_≡_}
 use mathlib.Core.Bool.{true, false}
 use mathlib.Core.List.{List, _++_}
 use lib.ListN.{length, drop}
-use Rattle.job.specs.Items.{Item, refused, accepted, recordsOf, neededRoom}
+use Rattle.job.specs.Items.{Head, Item, start, matterOf, refused, accepted, neededRoom}
 use Rattle.job.specs.Reading.{reading}
 use Rattle.report.specs.Report.{Sound}
 use Rattle.sight.specs.declared.Sight.{Sight}
@@ -23,6 +23,6 @@ pub data Fitted (s : Sight) (room : ℕ) : Sight → Type 0 where
 pub data Finished (job room work : List ℕ) (s : Sight) : ℕ → ℕ → ℕ → List ℕ → List ℕ → Type 0 where
   declined : s .lent ≡ false → Finished job room work s (s .number) (s .place) 0 room work
   unread : {n p : ℕ} {work′ : List ℕ} → s .lent ≡ true → reading job ≡ refused n p → Cleared work work′ → Finished job room work s n p 0 room work′
-  cramped : {N : ℕ} {items : List Item} {work′ : List ℕ} → s .lent ≡ true → reading job ≡ accepted N items → length room < neededRoom N 0 items → Cleared work work′ → Finished job room work s 9 0 0 room work′
-  done : {N : ℕ} {items : List Item} {bs work′ : List ℕ} → s .lent ≡ true → reading job ≡ accepted N items → neededRoom N 0 items ≤ length room → Sound N (recordsOf items) 0 items bs → Cleared work work′
+  cramped : {H : Head} {items : List Item} {work′ : List ℕ} → s .lent ≡ true → reading job ≡ accepted H items → length room < neededRoom H start items → Cleared work work′ → Finished job room work s 9 0 0 room work′
+  done : {H : Head} {items : List Item} {bs work′ : List ℕ} → s .lent ≡ true → reading job ≡ accepted H items → neededRoom H start items ≤ length room → Sound (matterOf H items) start items bs → Cleared work work′
       → Finished job room work s 0 0 (length bs) (bs ++ drop (length bs) room) work′

@@ -7,10 +7,10 @@ use mathlib.Core.Path.{_≡_, refl, sym, _∙_, ap₂}
 use mathlib.Core.Logic.{_⊎_, inl, inr}
 use mathlib.Core.List.{List, [], _∷_, _++_}
 use lib.ListN.{length, getD, drop}
-use Rattle.meaning.specs.Following.{Rec}
 use Rattle.meaning.proofs.Decide.{leader-one}
 use Rattle.meaning.proofs.Laws.{classes-one, idles-one, reason-follows}
-use Rattle.job.specs.Items.{Item, ask, Reading, refused, accepted, recordsOf, neededRoom}
+use Rattle.job.specs.Items.{Head, Matter, matterOf, Moment, start, after, ask, Item, posed, Reading, refused, accepted, neededRoom}
+use Rattle.job.specs.Reading.{namedPlaces, namedNumbers}
 use Rattle.records.specs.declared.Record.{Record}
 use Rattle.records.specs.Table.{blank, Blanked}
 use Rattle.report.specs.Report.{numbers, field, led, because, apart, Totalled, total, Sound, totals, passed, answered}
@@ -29,20 +29,20 @@ list-one d (suc k) (x ∷ xs) [] e h r = absurd (omega arith)
 list-one d (suc k) (x ∷ xs) (y ∷ ys) e h r = ap₂ _∷_ (h 0 (omega arith)) (list-one d k xs ys (omega arith) (λ i l. h (suc i) (omega arith)) r)
 
 pub cleared-one : {w a b : List ℕ} → Cleared w a → Cleared w b → a ≡ b
-cleared-one {w} {a} {b} c d = list-one 0 32768 b a (c .size ∙ sym (d .size)) (λ i l. c .zero i l ∙ sym (d .zero i l)) (c .rest ∙ sym (d .rest))
+cleared-one {w} {a} {b} c d = list-one 0 namedNumbers b a (c .size ∙ sym (d .size)) (λ i l. c .zero i l ∙ sym (d .zero i l)) (c .rest ∙ sym (d .rest))
 
 pub blanked-one : {t a b : List Record} → Blanked t a → Blanked t b → a ≡ b
-blanked-one {t} {a} {b} c d = list-one blank 4000 b a (c .size ∙ sym (d .size)) (λ i l. c .zero i l ∙ sym (d .zero i l)) (c .rest ∙ sym (d .rest))
+blanked-one {t} {a} {b} c d = list-one blank namedPlaces b a (c .size ∙ sym (d .size)) (λ i l. c .zero i l ∙ sym (d .zero i l)) (c .rest ∙ sym (d .rest))
 
-totalled-one : {N : ℕ} {rs : List Rec} {f g : List ℕ} → Totalled N rs f → Totalled N rs g → f ≡ g
+totalled-one : {M : Matter} {f g : List ℕ} → Totalled M f → Totalled M g → f ≡ g
 totalled-one (total c i) (total d j) = ap₂ (λ (x y : ℕ). field 143 (numbers (x ∷ y ∷ []))) (classes-one c d) (idles-one i j)
 
-led-alike : {N : ℕ} {rs : List Rec} {R s t l m l′ m′ : ℕ} {is : List Item} {bs bs′ : List ℕ} → l ≡ l′ → m ≡ m′ → Alike N rs R is bs bs′
-    → Alike N rs R (ask s t ∷ is) (field 131 (numbers (l ∷ m ∷ [])) ++ bs) (field 131 (numbers (l′ ∷ m′ ∷ [])) ++ bs′)
+led-alike : {M : Matter} {b : Moment} {s t l m l′ m′ : ℕ} {is : List Item} {bs bs′ : List ℕ} → l ≡ l′ → m ≡ m′ → Alike M (after (posed (ask s t)) b) is bs bs′
+    → Alike M b (posed (ask s t) ∷ is) (field 131 (numbers (l ∷ m ∷ [])) ++ bs) (field 131 (numbers (l′ ∷ m′ ∷ [])) ++ bs′)
 led-alike {l′ = l′} {m′ = m′} p q a = rw (p, q) (alike.answered (field 131 (numbers (l′ ∷ m′ ∷ []))) a)
 
 -- Two sound reports of the same items differ at most in the choice among reasons.
-pub sound-alike : {N : ℕ} {rs : List Rec} {R : ℕ} {is : List Item} {bs bs′ : List ℕ} → Sound N rs R is bs → Sound N rs R is bs′ → Alike N rs R is bs bs′
+pub sound-alike : {M : Matter} {b : Moment} {is : List Item} {bs bs′ : List ℕ} → Sound M b is bs → Sound M b is bs′ → Alike M b is bs bs′
 sound-alike (totals t) (totals u) = same (totalled-one t u)
 sound-alike (passed s) (passed u) = alike.passed (sound-alike s u)
 sound-alike (answered (led h k) s) (answered (led h′ k′) u) = led-alike (leader-one h h′) (leader-one k k′) (sound-alike s u)
@@ -52,32 +52,32 @@ sound-alike (answered (apart n) s) (answered (because r) u) = absurd (n (reason-
 sound-alike (answered (apart n) s) (answered (apart n′) u) = alike.answered (field 133 []) (sound-alike s u)
 
 -- What is long enough is not short.
-pub lent-not : {job : List ℕ} {records : List Record} {work : List ℕ} → Lent job records work → (length records < 4000) ⊎ (length work < 32768) → ⊥
+pub lent-not : {job : List ℕ} {records : List Record} {work : List ℕ} → Lent job records work → (length records < namedPlaces) ⊎ (length work < namedNumbers) → ⊥
 lent-not i (inl h) = omega (arith, i .places)
 lent-not i (inr h) = omega (arith, i .numbers)
 
 -- Reading gives one answer.
-pub clash : {X : Reading} {n p N : ℕ} {items : List Item} → X ≡ refused n p → X ≡ accepted N items → ⊥
+pub clash : {X : Reading} {n p : ℕ} {H : Head} {items : List Item} → X ≡ refused n p → X ≡ accepted H items → ⊥
 clash e f = let z : _≡_ {A = ℕ} 0 1 = cc in omega arith
 
 pub refused-one : {X : Reading} {n p n′ p′ : ℕ} → X ≡ refused n p → X ≡ refused n′ p′ → (n ≡ n′) × (p ≡ p′)
 refused-one e f = (cc, cc)
 
-pub accepted-one : {X : Reading} {N N′ : ℕ} {items items′ : List Item} → X ≡ accepted N items → X ≡ accepted N′ items′ → (N ≡ N′) × (items ≡ items′)
+pub accepted-one : {X : Reading} {H H′ : Head} {items items′ : List Item} → X ≡ accepted H items → X ≡ accepted H′ items′ → (H ≡ H′) × (items ≡ items′)
 accepted-one e f = (cc, cc)
 
 -- So both need the same room.
-room-one : {X : Reading} {N N′ : ℕ} {items items′ : List Item} → X ≡ accepted N items → X ≡ accepted N′ items′ → neededRoom N 0 items ≡ neededRoom N′ 0 items′
-room-one e f = let a = accepted-one e f in ap₂ (λ (n : ℕ) (is : List Item). neededRoom n 0 is) (a .0) (a .1)
+room-one : {X : Reading} {H H′ : Head} {items items′ : List Item} → X ≡ accepted H items → X ≡ accepted H′ items′ → neededRoom H start items ≡ neededRoom H′ start items′
+room-one e f = let a = accepted-one e f in ap₂ (λ (x : Head) (is : List Item). neededRoom x start is) (a .0) (a .1)
 
 module _ {room : List ℕ} {records₁ records₂ : List Record} {work₁ work₂ : List ℕ} (r : records₁ ≡ records₂) (w : work₁ ≡ work₂) where
   refused-same : {n p n′ p′ : ℕ} → n ≡ n′ → p ≡ p′ → OneRun room records₁ records₂ work₁ work₂ n p 0 room n′ p′ 0 room
   refused-same a b = rw (a, b) (equal r w)
 
-  done-same : {N N′ : ℕ} {items items′ : List Item} {bs bs′ : List ℕ} → N ≡ N′ → items ≡ items′ → Sound N (recordsOf items) 0 items bs → Sound N′ (recordsOf items′) 0 items′ bs′
+  done-same : {H H′ : Head} {items items′ : List Item} {bs bs′ : List ℕ} → H ≡ H′ → items ≡ items′ → Sound (matterOf H items) start items bs → Sound (matterOf H′ items′) start items′ bs′
       → OneRun room records₁ records₂ work₁ work₂ 0 0 (length bs) (bs ++ drop (length bs) room) 0 0 (length bs′) (bs′ ++ drop (length bs′) room)
-  done-same {N} {N′} {items} {items′} {bs} {bs′} a b s s′ =
-      let t : Sound N (recordsOf items) 0 items bs′ = rw (a, b) s′ in
+  done-same {H} {H′} {items} {items′} {bs} {bs′} a b s s′ =
+      let t : Sound (matterOf H items) start items bs′ = rw (a, b) s′ in
       chosen r w (sound-alike s t)
 
 pub run-one : {job room : List ℕ} {records : List Record} {work : List ℕ} {n p l n′ p′ l′ : ℕ} {room₁ room₂ : List ℕ} {records₁ records₂ : List Record} {work₁ work₂ : List ℕ}

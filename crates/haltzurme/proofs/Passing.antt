@@ -7,7 +7,7 @@ use mathlib.Core.Path.{_≡_, refl}
 use mathlib.Core.List.{List, [], _∷_}
 use lib.ListN.{length, take}
 use lib.Seq.{take-at}
-use Rattle.job.specs.Items.{Item, Reading, refused, accepted, recordsOf}
+use Rattle.job.specs.Items.{Head, matterOf, start, Item, Reading, refused, accepted}
 use Rattle.job.specs.Reading.{reading}
 use Rattle.records.specs.declared.Record.{Record}
 use Rattle.report.specs.Report.{Sound}
@@ -21,12 +21,12 @@ use Rattle.haltzurme.proofs.One.{blanked-one, cleared-one, lent-not, cl
 use Rattle.haltzurme.proofs.Numbers.{refused-number}
 
 -- A sound report has no fault, by whichever reading of the job.
-no-fault : {N N′ p : ℕ} {items items′ : List Item} {report : List ℕ} → N ≡ N′ → items ≡ items′ → Sound N (recordsOf items) 0 items report → FaultAt N′ (recordsOf items′) 0 items′ 0 report p → ⊥
+no-fault : {H H′ : Head} {p : ℕ} {items items′ : List Item} {report : List ℕ} → H ≡ H′ → items ≡ items′ → Sound (matterOf H items) start items report → FaultAt (matterOf H′ items′) start items′ 0 report p → ⊥
 no-fault a b s f = sound-no-fault (rw (a, b) at s) f
 
 -- A report that is sound for a job is rechecked as sound.
-sound-passes : {job report : List ℕ} {records records′ : List Record} {work work′ : List ℕ} {N n p : ℕ} {items : List Item} → Lent job records work → reading job ≡ accepted N items
-    → Sound N (recordsOf items) 0 items report → Rechecked job report records work n p records′ work′ → (n ≡ 0) × (p ≡ 0)
+sound-passes : {job report : List ℕ} {records records′ : List Record} {work work′ : List ℕ} {H : Head} {n p : ℕ} {items : List Item} → Lent job records work → reading job ≡ accepted H items
+    → Sound (matterOf H items) start items report → Rechecked job report records work n p records′ work′ → (n ≡ 0) × (p ≡ 0)
 sound-passes i e s (long h) = absurd (omega (arith, i .short))
 sound-passes i e s (narrow h t) = absurd (lent-not i t)
 sound-passes i e s (unread i′ e′ m) = absurd (clash e′ e)

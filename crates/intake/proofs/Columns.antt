@@ -8,12 +8,12 @@ use mathlib.Core.Logic.{_⊎_, inl, inr}
 use mathlib.Core.Bool.{true, false}
 use mathlib.Core.List.{List}
 use lib.ListN.{length}
-use Rattle.job.specs.Items.{Item, accepted, recordsOf}
+use Rattle.job.specs.Items.{Head, Item, accepted, recordsOf}
 use Rattle.job.specs.Reading.{reading}
 use Rattle.records.specs.declared.Record.{Record}
 use Rattle.records.specs.Table.{Blanked}
 use Rattle.records.proofs.Cleared.{blanked-over}
-use Rattle.table.specs.Map.{recordsIn}
+use Rattle.table.specs.Map.{recordsIn, Loaded}
 use Rattle.table.proofs.Frame.{within-wider, within-refl}
 use Rattle.fill.specs.Handing.{Counts, Handable, Handed}
 use Rattle.sight.specs.declared.Sight.{Sight}
@@ -29,7 +29,7 @@ use Rattle.intake.specs.Received.{Received}
 -- All of the records are asked for, or none.
 viewed-counts : {job : List ℕ} (s : Sight) → Viewed job s → (s .records ≡ 0) ⊎ Counts job (s .records)
 viewed-counts s (l.unread e) = inl refl
-viewed-counts s (l.ready {N = N} {items = items} e) = inr (record { size = N; items = items; reads = e; records = refl })
+viewed-counts s (l.ready {H = H} {items = items} e) = inr (record { head = H; items = items; reads = e; records = refl })
 
 module _ (job : List ℕ) (t : List Record) (w : List ℕ) (s : Sight) (seen : Looked job (length t) (length w) s) where
   -- Nothing is asked for where the lengths are not right.
@@ -40,7 +40,7 @@ module _ (job : List ℕ) (t : List Record) (w : List ℕ) (s : Sight) (seen : L
     blanked = λ y. let z : _≡_ {A = ℕ} 0 1 = cc in absurd (omega arith);
     frame = within-refl w;
     loaded = λ y. let x : s .lent ≡ true = ready-lent s seen y in let z : _≡_ {A = ℕ} 0 1 = cc in absurd (omega arith);
-    columns = λ N items e y. let x : s .lent ≡ true = ready-lent s seen y in let z : _≡_ {A = ℕ} 0 1 = cc in absurd (omega arith);
+    columns = λ H items e y. let x : s .lent ≡ true = ready-lent s seen y in let z : _≡_ {A = ℕ} 0 1 = cc in absurd (omega arith);
   }
 
   module _ (q : s .lent ≡ true) where
@@ -51,10 +51,10 @@ module _ (job : List ℕ) (t : List Record) (w : List ℕ) (s : Sight) (seen : L
     handable = record { places = read .enough .places; numbers = read .enough .numbers; count = viewed-counts s (read .viewed) }
 
     module _ (t′ : List Record) (w′ : List ℕ) (d : Handed job t w (s .records) t′ w′) where
-      as-items : (N : ℕ) (items : List Item) → reading job ≡ accepted N items → s .ready ≡ true → recordsIn (s .records) w′ ≡ recordsOf items
-      as-items N items e y =
+      as-items : (H : Head) (items : List Item) → reading job ≡ accepted H items → s .ready ≡ true → recordsIn (s .records) w′ ≡ recordsOf items
+      as-items H items e y =
           let r : Ready job s = looked-ready s seen y in
-          d .records (s .size) (r .items) (r .reads) (r .records) ∙ ap recordsOf (same-items job (s .size) N (r .items) items (r .reads) e)
+          d .records (r .head) (r .items) (r .reads) (r .records) ∙ ap recordsOf (same-items job (r .head) H (r .items) items (r .reads) e)
 
       pub received : (t″ : List Record) → Blanked t′ t″ → Received job t w s t″ w′
       received t″ b = record {
@@ -62,7 +62,7 @@ module _ (job : List ℕ) (t : List Record) (w : List ℕ) (s : Sight) (seen : L
         kept = λ y. let z : _≡_ {A = ℕ} 0 1 = cc in absurd (omega arith);
         blanked = λ _. blanked-over t t′ _ (d .size) (d .rest) b;
         frame = d .frame;
-        loaded = λ y. let r : Ready job s = looked-ready s seen y in d .loaded (s .size) (r .items) (r .reads) (r .records);
+        loaded = λ y. let r : Ready job s = looked-ready s seen y in subst (λ (n : ℕ). Loaded n (s .records) w′) (r .size) (d .loaded (r .head) (r .items) (r .reads) (r .records));
         columns = as-items;
       }
 

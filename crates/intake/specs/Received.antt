@@ -6,7 +6,7 @@ use mathlib.Core.Path.{_≡_}
 use mathlib.Core.Bool.{true, false}
 use mathlib.Core.List.{List}
 use lib.ListN.{length}
-use Rattle.job.specs.Items.{Item, accepted, recordsOf}
+use Rattle.job.specs.Items.{Head, Item, accepted, recordsOf}
 use Rattle.job.specs.Reading.{reading}
 use Rattle.records.specs.declared.Record.{Record}
 use Rattle.records.specs.Table.{Blanked}
@@ -24,4 +24,4 @@ pub record Received (job : List ℕ) (t : List Record) (w : List ℕ) (s : Sight
   -- of the work table nothing but the columns has changed, and they hold the records of an accepted job, with tags below N
   pub frame : Within 0 12003 w w′
   pub loaded : s .ready ≡ true → Loaded (s .size) (s .records) w′
-  pub columns : (N : ℕ) (items : List Item) → reading job ≡ accepted N items → s .ready ≡ true → recordsIn (s .records) w′ ≡ recordsOf items
+  pub columns : (H : Head) (items : List Item) → reading job ≡ accepted H items → s .ready ≡ true → recordsIn (s .records) w′ ≡ recordsOf items

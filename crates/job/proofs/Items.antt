@@ -1,45 +1,44 @@
--- The needed room is the sum over the questions, each with the records before it, and the tags that `Tagged` bounds are all there are:
--- both by going through the items, or their kinds, once.
+-- The needed room is the sum over the questions, each with the records before it, and the tags that `Tagged` bounds are all there are.
 -- Assumes nothing.
-use Prim.Native.Nat.{ℕ, suc, _+_, _*_, _-_, _<_, min}
+use Prim.Native.Nat.{ℕ, suc, _+_, _≤_, _<_}
+use native.Mathlib.Omega.{arith}
 use mathlib.Core.Path.{_≡_, refl, ap}
 use mathlib.Core.List.{List, [], _∷_, List·Memᴰ, List·Memᴰ·cases-cons, List·Memᴰ·not-nil}
 use mathlib.Core.Logic.{inl, inr}
-use lib.ListN.{length}
-use Rattle.meaning.specs.Following.{eq, app}
-use Rattle.job.specs.Items.{Item, noted, ask, explain, questionsOf, neededRoom, tagsOf, Asked, askedOf}
-use Rattle.job.specs.Standing.{Tagged}
+use lib.ListN.{length, length-append}
+use Rattle.job.specs.Items.{Head, Note, line, Moment, after, Item, noted, posed, standsFor, recordsOf, questionsOf, roomOf, neededRoom, tagsOf, Asked, askedOf}
+use Rattle.job.specs.Standing.{Below, Tagged}
 
--- The room that one question needs.
-abbrev pub roomFor : ℕ → ℕ → Item → ℕ
-roomFor N R (noted r) = 0
-roomFor N R (ask s t) = 7
-roomFor N R (explain s t) = 3 + 2 * min R (2 * (N - 1))
+abbrev pub roomForAll : Head → List Asked → ℕ
+roomForAll H [] = 7
+roomForAll H (a ∷ others) = roomOf H (a .moment) (a .question) + roomForAll H others
 
-abbrev pub roomForAll : ℕ → List Asked → ℕ
-roomForAll N [] = 7
-roomForAll N (a ∷ others) = roomFor N (a .before) (a .question) + roomForAll N others
+pub needed-asked : (H : Head) (b : Moment) (is : List Item) → neededRoom H b is ≡ roomForAll H (askedOf b is)
+needed-asked H b [] = refl
+needed-asked H b (noted n ∷ is) = needed-asked H (after (noted n) b) is
+needed-asked H b (posed q ∷ is) = ap (λ (n : ℕ). roomOf H b q + n) (needed-asked H (after (posed q) b) is)
 
-pub needed-asked : (N R : ℕ) (is : List Item) → neededRoom N R is ≡ roomForAll N (askedOf R is)
-needed-asked N R [] = refl
-needed-asked N R (noted r ∷ is) = needed-asked N (suc R) is
-needed-asked N R (ask s t ∷ is) = ap (λ (n : ℕ). 7 + n) (needed-asked N R is)
-needed-asked N R (explain s t ∷ is) = ap (λ (n : ℕ). 3 + 2 * min R (2 * (N - 1)) + n) (needed-asked N R is)
+pub asked-count : (b : Moment) (is : List Item) → length (askedOf b is) ≡ questionsOf is
+asked-count b [] = refl
+asked-count b (noted n ∷ is) = asked-count (after (noted n) b) is
+asked-count b (posed q ∷ is) = ap suc (asked-count (after (posed q) b) is)
 
-pub asked-count : (R : ℕ) (is : List Item) → length (askedOf R is) ≡ questionsOf is
-asked-count R [] = refl
-asked-count R (noted r ∷ is) = asked-count (suc R) is
-asked-count R (ask s t ∷ is) = ap suc (asked-count R is)
-asked-count R (explain s t ∷ is) = ap suc (asked-count R is)
+-- The records before what stands behind an item, and those behind it, are those before it and from it on.
+pub after-records : (b : Moment) (i : Item) (is : List Item) → after i b .records + length (recordsOf is) ≡ b .records + length (recordsOf (i ∷ is))
+after-records b (noted n) is = omega (arith, length-append (standsFor n) (recordsOf is))
+after-records b (posed q) is = refl
 
-one : (N t a : ℕ) (ts : List ℕ) → a < N → (List·Memᴰ t ts → t < N) → List·Memᴰ t (a ∷ ts) → t < N
-one N t a ts h f m = elim (List·Memᴰ·cases-cons m) [ inl e ↦ rw e h | inr n ↦ f n ]
+pub after-questions : (b : Moment) (i : Item) (is : List Item) → after i b .questions + questionsOf is ≡ b .questions + questionsOf (i ∷ is)
+after-questions b (noted n) is = refl
+after-questions b (posed q) is = omega arith
 
-none : (N t : ℕ) → List·Memᴰ t [] → t < N
-none N t m = absurd (List·Memᴰ·not-nil m)
+-- A note stands for few records.
+pub stands-few : (n : Note) → length (standsFor n) ≤ 1
+stands-few (line r) = omega arith
+
+pub below-each : (N t : ℕ) (ts : List ℕ) → Below N ts → List·Memᴰ t ts → t < N
+below-each N t [] h m = absurd (List·Memᴰ·not-nil m)
+below-each N t (a ∷ ts) h m = elim (List·Memᴰ·cases-cons m) [ inl e ↦ rw e (h .0) | inr n ↦ below-each N t ts (h .1) n ]
 
 pub tagged-below : (N t : ℕ) (i : Item) → Tagged N i → List·Memᴰ t (tagsOf i) → t < N
-tagged-below N t (noted (eq a b)) h = one N t a (b ∷ []) (h .0) (one N t b [] (h .1) (none N t))
-tagged-below N t (noted (app a b c)) h = one N t a (b ∷ c ∷ []) (h .0) (one N t b (c ∷ []) (h .1) (one N t c [] (h .2) (none N t)))
-tagged-below N t (ask a b) h = one N t a (b ∷ []) (h .0) (one N t b [] (h .1) (none N t))
-tagged-below N t (explain a b) h = one N t a (b ∷ []) (h .0) (one N t b [] (h .1) (none N t))
+tagged-below N t i = below-each N t (tagsOf i)

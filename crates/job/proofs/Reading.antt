@@ -9,10 +9,8 @@ use mathlib.Core.List.{List, []}
 use borrow.Author.Tests.{leb-true, lt-leb, ne-eqb}
 use lib.Dec.{eqb, leb}
 use lib.ListN.{length}
-use Rattle.meaning.specs.Following.{Rec, eq, app}
-use Rattle.job.specs.Items.{Item, noted, ask, explain, Reading, refused, accepted}
-use Rattle.job.specs.Reading.{Kind, first, record-eq, record-app, question-ask, question-explain, last, unknown, Field, bad, header, item, end, known, bodyLength, bodyAt, laterKind, kindAt, byteAt, numberAt, orElse, ofKind, fieldAt, counted, numbered, checked, with, behind, spanOf, onward, readFrom}
-use Rattle.job.specs.Answer.{spanOfField}
+use Rattle.job.specs.Items.{Head, Moment, start, after, Item, Reading, refused, accepted}
+use Rattle.job.specs.Reading.{Kind, record-eq, record-app, question-ask, question-explain, last, Field, bad, header, item, end, known, bodyLength, bodyAt, laterKind, kindAt, byteAt, lengthAt, behindAt, orElse, ofKind, fieldAt, counted, numbered, checked, with, behind, onward, readFrom}
 
 -- A field that is not refused.
 abbrev pub Sound : Field → Type 0
@@ -26,34 +24,25 @@ orElse-passed true n f g s e = (refl, e)
 orElse-passed false n f g s e = absurd (subst Sound (sym e) s)
 
 -- A field that passed the second half of the order is the field of the first half, and both tests held.
-pub record Passed (N R Q : ℕ) (f g : Field) : Type 0 where
+pub record Passed (H : Head) (b : Moment) (f g : Field) : Type 0 where
   pub is : f ≡ g
-  pub count : counted R Q g ≡ true
-  pub number : numbered N g ≡ true
+  pub count : counted b g ≡ true
+  pub number : numbered H g ≡ true
 
-pub checked-passed : (N R Q : ℕ) (f g : Field) → Sound g → checked N R Q f ≡ g → Passed N R Q f g
+pub checked-passed : (H : Head) (b : Moment) (f g : Field) → Sound g → checked H b f ≡ g → Passed H b f g
 unfolding checked
-checked-passed N R Q f g s e = go (orElse-passed (counted R Q f) 7 (orElse (numbered N f) 6 f) g s e)
+checked-passed H b f g s e = go (orElse-passed (counted b f) 7 (orElse (numbered H f) 6 f) g s e)
   where
-    go : (counted R Q f ≡ true) × (orElse (numbered N f) 6 f ≡ g) → Passed N R Q f g
-    go (h, e′) = also (orElse-passed (numbered N f) 6 f g s e′)
+    go : (counted b f ≡ true) × (orElse (numbered H f) 6 f ≡ g) → Passed H b f g
+    go (h, e′) = also (orElse-passed (numbered H f) 6 f g s e′)
       where
-        also : (numbered N f ≡ true) × (f ≡ g) → Passed N R Q f g
+        also : (numbered H f ≡ true) × (f ≡ g) → Passed H b f g
         also (h′, i) = record { is = i; count = rw i at h; number = rw i at h′ }
 
 -- Such a field stands whole in the job.
-body-span : (job : List ℕ) (at : ℕ) (k : Kind) → known k ≡ true → spanOfField (bodyAt job at k) ≡ 3 + bodyLength k
-body-span job at first e = refl
-body-span job at record-eq e = refl
-body-span job at record-app e = refl
-body-span job at question-ask e = refl
-body-span job at question-explain e = refl
-body-span job at last e = refl
-body-span job at unknown e = let z : _≡_ {A = ℕ} 0 1 = cc in absurd (omega arith)
-
 pub record Whole (job : List ℕ) (at : ℕ) (g : Field) : Type 0 where
   pub kind : known (kindAt at (byteAt job at)) ≡ true
-  pub there : at + 3 + bodyLength (kindAt at (byteAt job at)) ≤ length job
+  pub there : behindAt job at ≤ length job
   pub is : bodyAt job (at + 3) (kindAt at (byteAt job at)) ≡ g
 
 pub field-passed : (job : List ℕ) (at : ℕ) (g : Field) → Sound g → fieldAt job at ≡ g → Whole job at g
@@ -66,96 +55,97 @@ field-passed job at g s e = go (orElse-passed _ _ _ g s e)
     go : (leb (at + 3) (length job) ≡ true) × (ofKind job at k ≡ g) → Whole job at g
     go (h, e′) = kinds (orElse-passed _ _ _ g s e′)
       where
-        kinds : (known k ≡ true) × (orElse (eqb (numberAt job (at + 1)) (bodyLength k)) 5 (orElse (leb (at + 3 + bodyLength k) (length job)) 3 (bodyAt job (at + 3) k)) ≡ g) → Whole job at g
+        kinds : (known k ≡ true) × (orElse (eqb (lengthAt job at) (bodyLength k)) 5 (orElse (leb (behindAt job at) (length job)) 3 (bodyAt job (at + 3) k)) ≡ g) → Whole job at g
         kinds (a, e″) = lengths (orElse-passed _ _ _ g s e″)
           where
-            lengths : (eqb (numberAt job (at + 1)) (bodyLength k) ≡ true) × (orElse (leb (at + 3 + bodyLength k) (length job)) 3 (bodyAt job (at + 3) k) ≡ g) → Whole job at g
+            lengths : (eqb (lengthAt job at) (bodyLength k) ≡ true) × (orElse (leb (behindAt job at) (length job)) 3 (bodyAt job (at + 3) k) ≡ g) → Whole job at g
             lengths (b, e‴) = bodies (orElse-passed _ _ _ g s e‴)
               where
-                bodies : (leb (at + 3 + bodyLength k) (length job) ≡ true) × (bodyAt job (at + 3) k ≡ g) → Whole job at g
+                bodies : (leb (behindAt job at) (length job) ≡ true) × (bodyAt job (at + 3) k ≡ g) → Whole job at g
                 bodies (d, i) = record { kind = a; there = leb-true _ _ d; is = i }
 
-pub field-whole : (job : List ℕ) (at : ℕ) (g : Field) → Sound g → fieldAt job at ≡ g → at + spanOfField g ≤ length job
-field-whole job at g s e =
-    let w : Whole job at g = field-passed job at g s e in
-    let n : spanOfField g ≡ 3 + bodyLength (kindAt at (byteAt job at)) = ap spanOfField (sym (w .is)) ∙ body-span job (at + 3) (kindAt at (byteAt job at)) (w .kind) in
-    omega (arith, w .there)
+pub field-whole : (job : List ℕ) (at : ℕ) (g : Field) → Sound g → fieldAt job at ≡ g → behindAt job at ≤ length job
+field-whole job at g s e = field-passed job at g s e .there
 
--- N stands in the first field and nowhere else.
-later-first : (job : List ℕ) (at b M : ℕ) → bodyAt job at (laterKind b) ≡ header M → ⊥
-later-first job at b M e = go (eqb b 1) (eqb b 2) (eqb b 3) (eqb b 4) (eqb b 127) e
+-- What a kind says behind the first field: an item, the end, or nothing, which is refused by 4.
+abbrev pub NotFirst : Field → Type 0
+NotFirst (bad n) = n ≡ 4
+NotFirst (header M) = ⊥
+NotFirst (item i) = Unit {0}
+NotFirst end = Unit {0}
+
+record Later (job : List ℕ) (at : ℕ) (k : Kind) : Type 0 where
+  says : NotFirst (bodyAt job at k)
+
+later-says : (job : List ℕ) (at b : ℕ) → Later job at (laterKind b)
+later-says job at b = or (eqb b 1) record-eq tt (or (eqb b 2) record-app tt (or (eqb b 3) question-ask tt (or (eqb b 4) question-explain tt (or (eqb b 127) last tt (record { says = refl })))))
   where
-    go : (p q r s t : Bool) → bodyAt job at (cond p record-eq (cond q record-app (cond r question-ask (cond s question-explain (cond t last unknown))))) ≡ header M → ⊥
-    go true q r s t e = let z : _≡_ {A = ℕ} 0 1 = cc in omega arith
-    go false true r s t e = let z : _≡_ {A = ℕ} 0 1 = cc in omega arith
-    go false false true s t e = let z : _≡_ {A = ℕ} 0 1 = cc in omega arith
-    go false false false true t e = let z : _≡_ {A = ℕ} 0 1 = cc in omega arith
-    go false false false false true e = let z : _≡_ {A = ℕ} 0 1 = cc in omega arith
-    go false false false false false e = let z : _≡_ {A = ℕ} 0 1 = cc in omega arith
+    or : {l : Kind} (p : Bool) (k : Kind) → NotFirst (bodyAt job at k) → Later job at l → Later job at (cond p k l)
+    or true k h i = record { says = h }
+    or false k h i = i
 
-pub header-first : (job : List ℕ) (at M : ℕ) → 0 < at → fieldAt job at ≡ header M → ⊥
-header-first job at M h e =
-    let i = field-passed job at (header M) tt e .is in
-    later-first job (at + 3) (byteAt job at) M (rw (ne-eqb at 0 (omega arith)) at i)
+pub body-later : (job : List ℕ) (at : ℕ) (g : Field) → 0 < at → bodyAt job (at + 3) (kindAt at (byteAt job at)) ≡ g → NotFirst g
+body-later job at g h e = subst NotFirst (rw (ne-eqb at 0 (omega arith)) at e) (later-says job (at + 3) (byteAt job at) .says)
 
--- So what is accepted behind the first field is accepted with the N that it was read with.
-abbrev pub Sized : ℕ → Reading → Type 0
-Sized N (refused n p) = Unit {0}
-Sized N (accepted M is) = M ≡ N
+-- So N stands in the first field and nowhere else.
+pub header-first : (job : List ℕ) (at : ℕ) (M : Head) → 0 < at → fieldAt job at ≡ header M → ⊥
+header-first job at M h e = body-later job at (header M) h (field-passed job at (header M) tt e .is)
 
-with-sized : (N : ℕ) (i : Item) (X : Reading) → Sized N X → Sized N (with i X)
-with-sized N i (refused n p) h = tt
-with-sized N i (accepted M is) h = h
+-- So what is accepted behind the first field is accepted with what it was read with.
+abbrev pub Sized : Head → Reading → Type 0
+Sized H (refused n p) = Unit {0}
+Sized H (accepted M is) = M ≡ H
 
-behind-sized : (job : List ℕ) (N at : ℕ) → Sized N (behind job N at)
-behind-sized job N at = go (leb (length job) at)
+with-sized : (H : Head) (i : Item) (X : Reading) → Sized H X → Sized H (with i X)
+with-sized H i (refused n p) h = tt
+with-sized H i (accepted M is) h = h
+
+behind-sized : (job : List ℕ) (H : Head) (at : ℕ) → Sized H (behind job H at)
+behind-sized job H at = go (leb (length job) at)
   where
-    go : (b : Bool) → Sized N (cond b (accepted N []) (refused 8 at))
+    go : (b : Bool) → Sized H (cond b (accepted H []) (refused 8 at))
     go true = refl
     go false = tt
 
-pub read-sized : (n : ℕ) (job : List ℕ) (N R Q at : ℕ) → 0 < at → Sized N (readFrom n job N R Q at)
+pub read-sized : (n : ℕ) (job : List ℕ) (H : Head) (b : Moment) (at : ℕ) → 0 < at → Sized H (readFrom n job H b at)
 unfolding readFrom
-read-sized zero job N R Q at h = tt
-read-sized (suc n) job N R Q at h = go (λ R′ Q′ k. read-sized n job N R′ Q′ (at + k) (omega arith)) (checked N R Q (fieldAt job at)) refl
+read-sized zero job H b at h = tt
+read-sized (suc n) job H b at h = go (λ b′ k. read-sized n job H b′ (at + k) (omega arith)) (checked H b (fieldAt job at)) refl
   where
-    go : ((R′ Q′ k : ℕ) → Sized N (readFrom n job N R′ Q′ (at + k))) → (g : Field) → checked N R Q (fieldAt job at) ≡ g → Sized N (onward (readFrom n job) job N R Q at g)
+    go : ((b′ : Moment) (k : ℕ) → Sized H (readFrom n job H b′ (at + k))) → (g : Field) → checked H b (fieldAt job at) ≡ g → Sized H (onward (readFrom n job) job H b at g)
     go ih (bad m) e = tt
-    go ih (header M) e = absurd (header-first job at M h (checked-passed N R Q (fieldAt job at) (header M) tt e .is))
-    go ih (item (noted r)) e = with-sized N (noted r) (readFrom n job N (suc R) Q (at + spanOf (noted r))) (ih (suc R) Q (spanOf (noted r)))
-    go ih (item (ask s t)) e = with-sized N (ask s t) (readFrom n job N R (suc Q) (at + 7)) (ih R (suc Q) 7)
-    go ih (item (explain s t)) e = with-sized N (explain s t) (readFrom n job N R (suc Q) (at + 7)) (ih R (suc Q) 7)
-    go ih end e = behind-sized job N (at + 3)
+    go ih (header M) e = absurd (header-first job at M h (checked-passed H b (fieldAt job at) (header M) tt e .is))
+    go ih (item i) e = with-sized H i (readFrom n job H (after i b) (behindAt job at)) (ih (after i b) (3 + lengthAt job at))
+    go ih end e = behind-sized job H (behindAt job at)
+
+-- A test and nothing else.
+pub and-none : (b : Bool) → (b && true) ≡ b
+and-none true = refl
+and-none false = refl
 
 pub and-true : (a b : Bool) → (a && b) ≡ true → (a ≡ true) × (b ≡ true)
 and-true true b e = (refl, e)
 and-true false b e = let z : _≡_ {A = ℕ} 0 1 = cc in absurd (omega arith)
-
-pub record-span : (r : Rec) → 7 ≤ spanOf (noted r)
-record-span (eq a b) = omega arith
-record-span (app a b c) = omega arith
 
 -- Beyond the job nothing is read.
 field-beyond : (job : List ℕ) (at : ℕ) → length job < at → fieldAt job at ≡ bad 3
 unfolding fieldAt
 field-beyond job at h = rw (lt-leb (at + 3) (length job) (omega arith))
 
-read-beyond : (n : ℕ) (job : List ℕ) (N R Q at : ℕ) → length job < at → readFrom n job N R Q at ≡ refused 3 at
+read-beyond : (n : ℕ) (job : List ℕ) (H : Head) (b : Moment) (at : ℕ) → length job < at → readFrom n job H b at ≡ refused 3 at
 unfolding readFrom checked
-read-beyond zero job N R Q at h = refl
-read-beyond (suc n) job N R Q at h = rw (field-beyond job at h)
+read-beyond zero job H b at h = refl
+read-beyond (suc n) job H b at h = rw (field-beyond job at h)
 
 -- The fuel of reading is enough: with any two numbers of fields above what is left of the job, the same is read.
-pub read-enough : (m n : ℕ) (job : List ℕ) (N R Q at : ℕ) → length job < at + m → length job < at + n → readFrom m job N R Q at ≡ readFrom n job N R Q at
+pub read-enough : (m n : ℕ) (job : List ℕ) (H : Head) (b : Moment) (at : ℕ) → length job < at + m → length job < at + n → readFrom m job H b at ≡ readFrom n job H b at
 unfolding readFrom
-read-enough zero n job N R Q at a b = sym (read-beyond n job N R Q at (omega arith))
-read-enough (suc m) zero job N R Q at a b = read-beyond (suc m) job N R Q at (omega arith)
-read-enough (suc m) (suc n) job N R Q at a b = go (λ N′ R′ Q′ k l. read-enough m n job N′ R′ Q′ (at + k) (omega arith) (omega arith)) (checked N R Q (fieldAt job at))
+read-enough zero n job H b at x y = sym (read-beyond n job H b at (omega arith))
+read-enough (suc m) zero job H b at x y = read-beyond (suc m) job H b at (omega arith)
+read-enough (suc m) (suc n) job H b at x y = go (λ H′ b′ k l. read-enough m n job H′ b′ (at + k) (omega arith) (omega arith)) (checked H b (fieldAt job at))
   where
-    go : ((N′ R′ Q′ k : ℕ) → 3 ≤ k → readFrom m job N′ R′ Q′ (at + k) ≡ readFrom n job N′ R′ Q′ (at + k)) → (g : Field) → onward (readFrom m job) job N R Q at g ≡ onward (readFrom n job) job N R Q at g
+    go : ((H′ : Head) (b′ : Moment) (k : ℕ) → 3 ≤ k → readFrom m job H′ b′ (at + k) ≡ readFrom n job H′ b′ (at + k)) → (g : Field) → onward (readFrom m job) job H b at g ≡ onward (readFrom n job) job H b at g
     go ih (bad k) = refl
-    go ih (header M) = ih M R Q 5 (omega arith)
-    go ih (item (noted r)) = ap (with (noted r)) (ih N (suc R) Q (spanOf (noted r)) (omega (arith, record-span r)))
-    go ih (item (ask s t)) = ap (with (ask s t)) (ih N R (suc Q) 7 (omega arith))
-    go ih (item (explain s t)) = ap (with (explain s t)) (ih N R (suc Q) 7 (omega arith))
+    go ih (header M) = ih M b (3 + lengthAt job at) (omega arith)
+    go ih (item i) = ap (with i) (ih H (after i b) (3 + lengthAt job at) (omega arith))
     go ih end = refl

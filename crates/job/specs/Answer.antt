@@ -2,14 +2,18 @@
 -- Assumes nothing.
 use Prim.Native.Nat.{ℕ}
 use Rattle.meaning.specs.Following.{eq, app}
-use Rattle.job.specs.Items.{noted, ask, explain}
-use Rattle.job.specs.Reading.{Kind, first, record-eq, record-app, question-ask, question-explain, last, unknown, Field, bad, header, item, end, spanOf}
+use Rattle.job.specs.Items.{Note, line, Question, noted, posed, ask, explain}
+use Rattle.job.specs.Reading.{Kind, first, record-eq, record-app, question-ask, question-explain, last, unknown, Field, bad, header, item, end}
 use Rattle.job.specs.declared.Fault.{Fault}
 use Rattle.job.specs.declared.Fault.the-variants.{Cut, Misplaced, Misfit, OutOfRange, TooMany, Trailing}
 use Rattle.job.specs.declared.Kind.{Kind as KindCode}
 use Rattle.job.specs.declared.Kind.the-variants as k
+use Rattle.job.specs.declared.Line.{Line}
+use Rattle.job.specs.declared.Line.the-variants.{Equation, Application}
+use Rattle.job.specs.declared.Query.{Query}
+use Rattle.job.specs.declared.Query.the-variants.{Ask, Explain}
 use Rattle.job.specs.declared.Field.{Field as FieldCode}
-use Rattle.job.specs.declared.Field.the-variants.{Bad, Header, Equation, Application, Ask, Explain, End}
+use Rattle.job.specs.declared.Field.the-variants.{Bad, Header, Noted, Posed, End}
 
 -- The refusals of reading by document 01's numbers.
 abbrev pub numberOf : Fault → ℕ
@@ -29,19 +33,19 @@ kindOf k.Explained = question-explain
 kindOf k.Last = last
 kindOf k.Unknown = unknown
 
+-- What a note and a question of the code say.
+abbrev pub noteSaid : Line → Note
+noteSaid (Equation a b) = line (eq (a .0) (b .0))
+noteSaid (Application a b c) = line (app (a .0) (b .0) (c .0))
+
+abbrev pub questionSaid : Query → Question
+questionSaid (Ask s t) = ask (s .0) (t .0)
+questionSaid (Explain s t) = explain (s .0) (t .0)
+
 -- What a field of the code says.
 abbrev pub said : FieldCode → Field
 said (Bad f) = bad (numberOf f)
-said (Header n) = header n
-said (Equation a b) = item (noted (eq (a .0) (b .0)))
-said (Application a b c) = item (noted (app (a .0) (b .0) (c .0)))
-said (Ask s t) = item (ask (s .0) (t .0))
-said (Explain s t) = item (explain (s .0) (t .0))
+said (Header n) = header (record { size = n })
+said (Noted l) = item (noted (noteSaid l))
+said (Posed q) = item (posed (questionSaid q))
 said End = end
-
--- The bytes that a field fills, so that the next one stands so many further on.
-abbrev pub spanOfField : Field → ℕ
-spanOfField (bad n) = 0
-spanOfField (header N) = 5
-spanOfField (item i) = spanOf i
-spanOfField end = 3

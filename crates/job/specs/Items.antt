@@ -1,61 +1,117 @@
 -- Document 01, "The job and the report": what a job says once it has been read, and the room its report needs.
 -- Assumes nothing.
 use Prim.Native.Nat.{ℕ, suc, _+_, _*_, _-_, min}
-use mathlib.Core.List.{List, [], _∷_}
+use mathlib.Core.List.{List, [], _∷_, _++_}
+use lib.ListN.{length}
 use Rattle.meaning.specs.Following.{Rec, eq, app}
 
--- A field behind the first one: a record (kinds 01 and 02), or one of the two questions (03 ask, 04 explain) on s and t.
-pub data Item : Type 0 where
-  noted : Rec → Item
-  ask : ℕ → ℕ → Item
-  explain : ℕ → ℕ → Item
+-- What the first field says: N.
+pub record Head : Type 0 where
+  pub size : ℕ
 
--- What reading a job gives: a refusal by number and place, or N and the items in the order they stand.
+-- What a job notes: a record (kinds 01 and 02).
+pub data Note : Type 0 where
+  line : Rec → Note
+
+-- The records that a note stands for, in the order of their numbers.
+abbrev pub standsFor : Note → List Rec
+standsFor (line r) = r ∷ []
+
+-- The questions: 03 ask, 04 explain, on s and t.
+pub data Question : Type 0 where
+  ask : ℕ → ℕ → Question
+  explain : ℕ → ℕ → Question
+
+-- A field behind the first one: a note or a question.
+pub data Item : Type 0 where
+  noted : Note → Item
+  posed : Question → Item
+
+-- What reading a job gives: a refusal by number and place, or what the first field says and the items in the order they stand.
 pub data Reading : Type 0 where
   refused : ℕ → ℕ → Reading
-  accepted : ℕ → List Item → Reading
+  accepted : Head → List Item → Reading
 
 -- The items of what was read: none where it was refused.
 abbrev pub itemsOf : Reading → List Item
 itemsOf (refused n p) = []
-itemsOf (accepted N is) = is
+itemsOf (accepted H is) = is
+
+-- What the first field says: N is 0 where there is none to be read.
+abbrev pub unsized : Head
+unsized = record { size = 0 }
+
+abbrev pub headOf : Reading → Head
+headOf (refused n p) = unsized
+headOf (accepted H is) = H
 
 -- The records in the order they stand; their numbers, from 1, are their places in this list.
 abbrev pub recordsOf : List Item → List Rec
 recordsOf [] = []
-recordsOf (noted r ∷ is) = r ∷ recordsOf is
-recordsOf (ask s t ∷ is) = recordsOf is
-recordsOf (explain s t ∷ is) = recordsOf is
+recordsOf (noted n ∷ is) = standsFor n ++ recordsOf is
+recordsOf (posed q ∷ is) = recordsOf is
 
--- The number of questions, 03 and 04 together.
+-- The number of questions, of all kinds together.
 abbrev pub questionsOf : List Item → ℕ
 questionsOf [] = 0
-questionsOf (noted r ∷ is) = questionsOf is
-questionsOf (ask s t ∷ is) = suc (questionsOf is)
-questionsOf (explain s t ∷ is) = suc (questionsOf is)
+questionsOf (noted n ∷ is) = questionsOf is
+questionsOf (posed q ∷ is) = suc (questionsOf is)
 
--- Needed room, with R the records before the items: 7 bytes for each ask; 3 + 2·min(R, 2(N-1)) for each explain; 7 for the totals.
-abbrev pub neededRoom : ℕ → ℕ → List Item → ℕ
-neededRoom N R [] = 7
-neededRoom N R (noted r ∷ is) = neededRoom N (suc R) is
-neededRoom N R (ask s t ∷ is) = 7 + neededRoom N R is
-neededRoom N R (explain s t ∷ is) = 3 + 2 * min R (2 * (N - 1)) + neededRoom N R is
+-- What stands before an item: so many records and questions.
+pub record Moment : Type 0 where
+  pub records : ℕ
+  pub questions : ℕ
 
--- The tags of an item, a record's or a question's.
+-- Nothing stands before the first item; behind an item stands one note or one question more.
+abbrev pub start : Moment
+start = record { records = 0; questions = 0 }
+
+abbrev pub after : Item → Moment → Moment
+after (noted n) b = record { records = b .records + length (standsFor n); questions = b .questions }
+after (posed q) b = record { records = b .records; questions = b .questions + 1 }
+
+-- The room that a question needs, with R the records before it: 7 bytes for an ask; 3 + 2·min(R, 2(N-1)) for an explain.
+abbrev pub roomOf : Head → Moment → Question → ℕ
+roomOf H b (ask s t) = 7
+roomOf H b (explain s t) = 3 + 2 * min (b .records) (2 * (H .size - 1))
+
+-- Needed room: that of each question at its moment, and 7 for the totals.
+abbrev pub neededRoom : Head → Moment → List Item → ℕ
+neededRoom H b [] = 7
+neededRoom H b (noted n ∷ is) = neededRoom H (after (noted n) b) is
+neededRoom H b (posed q ∷ is) = roomOf H b q + neededRoom H (after (posed q) b) is
+
+-- What a report is held against: the first field and the job's records.
+pub record Matter : Type 0 where
+  pub head : Head
+  pub records : List Rec
+
+abbrev pub matterOf : Head → List Item → Matter
+matterOf H is = record { head = H; records = recordsOf is }
+
+-- The tags of a record, a note, a question and an item, in the order of the job's table.
+abbrev pub tagsOfRecord : Rec → List ℕ
+tagsOfRecord (eq a b) = a ∷ b ∷ []
+tagsOfRecord (app a b c) = a ∷ b ∷ c ∷ []
+
+abbrev pub tagsOfNote : Note → List ℕ
+tagsOfNote (line r) = tagsOfRecord r
+
+abbrev pub tagsOfQuestion : Question → List ℕ
+tagsOfQuestion (ask s t) = s ∷ t ∷ []
+tagsOfQuestion (explain s t) = s ∷ t ∷ []
+
 abbrev pub tagsOf : Item → List ℕ
-tagsOf (noted (eq a b)) = a ∷ b ∷ []
-tagsOf (noted (app a b c)) = a ∷ b ∷ c ∷ []
-tagsOf (ask s t) = s ∷ t ∷ []
-tagsOf (explain s t) = s ∷ t ∷ []
+tagsOf (noted n) = tagsOfNote n
+tagsOf (posed q) = tagsOfQuestion q
 
--- A question and the number of records before it.
+-- A question and its moment.
 pub record Asked : Type 0 where
-  pub before : ℕ
-  pub question : Item
+  pub moment : Moment
+  pub question : Question
 
--- The questions in the order they stand, with R the records before the items.
-abbrev pub askedOf : ℕ → List Item → List Asked
-askedOf R [] = []
-askedOf R (noted r ∷ is) = askedOf (suc R) is
-askedOf R (ask s t ∷ is) = record { before = R; question = ask s t } ∷ askedOf R is
-askedOf R (explain s t ∷ is) = record { before = R; question = explain s t } ∷ askedOf R is
+-- The questions in the order they stand.
+abbrev pub askedOf : Moment → List Item → List Asked
+askedOf b [] = []
+askedOf b (noted n ∷ is) = askedOf (after (noted n) b) is
+askedOf b (posed q ∷ is) = record { moment = b; question = q } ∷ askedOf (after (posed q) b) is

@@ -7,7 +7,7 @@ use mathlib.Core.List.{List, [], _∷_}
 use lib.Dec.{eqb, ltb, leb}
 use lib.ListN.{length, getD}
 use Rattle.meaning.specs.Following.{eq, app}
-use Rattle.job.specs.Items.{Item, noted, ask, explain, Reading, refused, accepted, itemsOf}
+use Rattle.job.specs.Items.{Head, line, Item, noted, posed, ask, explain, standsFor, tagsOf, Moment, start, after, Reading, refused, accepted, unsized, headOf, itemsOf, Matter, matterOf}
 
 -- All numbers are two bytes, high byte first.
 abbrev pub byteAt : List ℕ → ℕ → ℕ
@@ -20,8 +20,15 @@ numberAt job at = byteAt job at * 256 + byteAt job (at + 1)
 pub data Kind : Type 0 where
   first record-eq record-app question-ask question-explain last unknown : Kind
 
--- The kind that a byte names at a place. 10 hex (16) is the first field, once: it stands at 0 and nowhere else, and at 0 nothing
--- else stands.
+-- What a field says: nothing, with the number of its refusal; what the first field says; an item; that the job ends.
+pub data Field : Type 0 where
+  bad : ℕ → Field
+  header : Head → Field
+  item : Item → Field
+  end : Field
+
+-- The job's table, line by line: the byte of each kind, the bytes of its body, and what its numbers say. The kind that a byte names:
+-- 10 hex (16) is the first field, once, so that it stands at 0 and nowhere else, and at 0 nothing else stands; 7F hex (127) is the end.
 abbrev pub firstKind : ℕ → Kind
 firstKind b = cond (eqb b 16) first unknown
 
@@ -36,15 +43,6 @@ laterKind b =
 abbrev pub kindAt : ℕ → ℕ → Kind
 kindAt at b = cond (eqb at 0) (firstKind b) (laterKind b)
 
-abbrev pub known : Kind → Bool
-known first = true
-known record-eq = true
-known record-app = true
-known question-ask = true
-known question-explain = true
-known last = true
-known unknown = false
-
 -- The bytes of each kind's body: N; a, b; a, b, c; s, t; s, t; none.
 abbrev pub bodyLength : Kind → ℕ
 bodyLength first = 2
@@ -55,22 +53,36 @@ bodyLength question-explain = 4
 bodyLength last = 0
 bodyLength unknown = 0
 
--- What a field says: nothing, with the number of its refusal; N; an item; that the job ends.
-pub data Field : Type 0 where
-  bad : ℕ → Field
-  header : ℕ → Field
-  item : Item → Field
-  end : Field
+-- What a kind says with the numbers of its body, of which there are three at most.
+abbrev pub says : Kind → ℕ → ℕ → ℕ → Field
+says first a b c = header (record { size = a })
+says record-eq a b c = item (noted (line (eq a b)))
+says record-app a b c = item (noted (line (app a b c)))
+says question-ask a b c = item (posed (ask a b))
+says question-explain a b c = item (posed (explain a b))
+says last a b c = end
+says unknown a b c = bad 4
+
+-- Every kind of the table is known.
+abbrev pub known : Kind → Bool
+known first = true
+known record-eq = true
+known record-app = true
+known question-ask = true
+known question-explain = true
+known last = true
+known unknown = false
+
+-- The length that a field states, and the place behind the field: its three bytes and as many as it states.
+abbrev pub lengthAt : List ℕ → ℕ → ℕ
+lengthAt job at = numberAt job (at + 1)
+
+abbrev pub behindAt : List ℕ → ℕ → ℕ
+behindAt job at = at + (3 + lengthAt job at)
 
 -- The field of a kind whose body stands at a place.
 abbrev pub bodyAt : List ℕ → ℕ → Kind → Field
-bodyAt job at first = header (numberAt job at)
-bodyAt job at record-eq = item (noted (eq (numberAt job at) (numberAt job (at + 2))))
-bodyAt job at record-app = item (noted (app (numberAt job at) (numberAt job (at + 2)) (numberAt job (at + 4))))
-bodyAt job at question-ask = item (ask (numberAt job at) (numberAt job (at + 2)))
-bodyAt job at question-explain = item (explain (numberAt job at) (numberAt job (at + 2)))
-bodyAt job at last = end
-bodyAt job at unknown = bad 4
+bodyAt job at k = says k (numberAt job at) (numberAt job (at + 2)) (numberAt job (at + 4))
 
 -- The test must hold, or else the field is refused by the number.
 abbrev pub orElse : Bool → ℕ → Field → Field
@@ -82,71 +94,89 @@ orElse false n f = bad n
 abbrev pub ofKind : List ℕ → ℕ → Kind → Field
 ofKind job at k =
     orElse (known k) 4
-    (orElse (eqb (numberAt job (at + 1)) (bodyLength k)) 5
-    (orElse (leb (at + 3 + bodyLength k) (length job)) 3 (bodyAt job (at + 3) k)))
+    (orElse (eqb (lengthAt job at) (bodyLength k)) 5
+    (orElse (leb (behindAt job at) (length job)) 3 (bodyAt job (at + 3) k)))
 
 unfoldable pub fieldAt : List ℕ → ℕ → Field
 fieldAt job at = orElse (leb (at + 3) (length job)) 3 (ofKind job at (kindAt at (byteAt job at)))
 
--- At most 4,000 records and 1,000 questions; R records and Q questions stand before the field.
-abbrev pub counted : ℕ → ℕ → Field → Bool
-counted R Q (bad n) = true
-counted R Q (header M) = true
-counted R Q (item (noted r)) = ltb R 4000
-counted R Q (item (ask s t)) = ltb Q 1000
-counted R Q (item (explain s t)) = ltb Q 1000
-counted R Q end = true
+-- At most 4,000 records and 1,000 questions.
+abbrev pub mostRecords : ℕ
+mostRecords = 4000
+
+abbrev pub mostQuestions : ℕ
+mostQuestions = 1000
+
+-- The records that a note stands for are counted with those before it, and so is a question.
+abbrev pub counted : Moment → Field → Bool
+counted b (bad n) = true
+counted b (header M) = true
+counted b (item (noted n)) = leb (b .records + length (standsFor n)) mostRecords
+counted b (item (posed q)) = ltb (b .questions) mostQuestions
+counted b end = true
 
 -- N is from 1 to 1,000, and a tag is below N.
-abbrev pub numbered : ℕ → Field → Bool
-numbered N (bad n) = true
-numbered N (header M) = ltb 0 M && leb M 1000
-numbered N (item (noted (eq a b))) = ltb a N && ltb b N
-numbered N (item (noted (app a b c))) = ltb a N && ltb b N && ltb c N
-numbered N (item (ask s t)) = ltb s N && ltb t N
-numbered N (item (explain s t)) = ltb s N && ltb t N
-numbered N end = true
+abbrev pub allBelow : ℕ → List ℕ → Bool
+allBelow N [] = true
+allBelow N (t ∷ ts) = ltb t N && allBelow N ts
+
+abbrev pub sizeRight : Head → Bool
+sizeRight M = ltb 0 (M .size) && leb (M .size) 1000
+
+abbrev pub numbered : Head → Field → Bool
+numbered H (bad n) = true
+numbered H (header M) = sizeRight M
+numbered H (item i) = allBelow (H .size) (tagsOf i)
+numbered H end = true
 
 -- The second half of the order: count limit (7); N or tag numbers (6).
-unfoldable pub checked : ℕ → ℕ → ℕ → Field → Field
-checked N R Q f = orElse (counted R Q f) 7 (orElse (numbered N f) 6 f)
+unfoldable pub checked : Head → Moment → Field → Field
+checked H b f = orElse (counted b f) 7 (orElse (numbered H f) 6 f)
 
 -- What is read behind an item, with the item before it.
 abbrev pub with : Item → Reading → Reading
 with i (refused n p) = refused n p
-with i (accepted N is) = accepted N (i ∷ is)
+with i (accepted H is) = accepted H (i ∷ is)
 
 -- Nothing follows the end field: a byte after it is refused by 8 at that byte.
-abbrev pub behind : List ℕ → ℕ → ℕ → Reading
-behind job N at = cond (leb (length job) at) (accepted N []) (refused 8 at)
+abbrev pub behind : List ℕ → Head → ℕ → Reading
+behind job H at = cond (leb (length job) at) (accepted H []) (refused 8 at)
 
--- The bytes that an item's field fills: three before its body, and its body.
-abbrev pub spanOf : Item → ℕ
-spanOf (noted (eq a b)) = 7
-spanOf (noted (app a b c)) = 9
-spanOf (ask s t) = 7
-spanOf (explain s t) = 7
-
--- What a field at a place leads to, with N, R and Q as they stand before it: a refusal has the field's first byte for its place; from
--- the others reading goes on behind the field.
-abbrev pub onward : (ℕ → ℕ → ℕ → ℕ → Reading) → List ℕ → ℕ → ℕ → ℕ → ℕ → Field → Reading
-onward read job N R Q at (bad n) = refused n at
-onward read job N R Q at (header M) = read M R Q (at + 5)
-onward read job N R Q at (item (noted r)) = with (noted r) (read N (suc R) Q (at + spanOf (noted r)))
-onward read job N R Q at (item (ask s t)) = with (ask s t) (read N R (suc Q) (at + spanOf (ask s t)))
-onward read job N R Q at (item (explain s t)) = with (explain s t) (read N R (suc Q) (at + spanOf (explain s t)))
-onward read job N R Q at end = behind job N (at + 3)
+-- What a field at a place leads to, with what the first field said and the moment before it: a refusal has the field's first byte for
+-- its place; from the others reading goes on behind the field.
+abbrev pub onward : (Head → Moment → ℕ → Reading) → List ℕ → Head → Moment → ℕ → Field → Reading
+onward read job H b at (bad n) = refused n at
+onward read job H b at (header M) = read M b (behindAt job at)
+onward read job H b at (item i) = with i (read H (after i b) (behindAt job at))
+onward read job H b at end = behind job H (behindAt job at)
 
 -- Reading from a place, at most so many fields. A field has three bytes at least, so that a number above the bytes that are left is
 -- never spent (proofs/Reading, read-enough).
-unfoldable pub readFrom : ℕ → List ℕ → ℕ → ℕ → ℕ → ℕ → Reading
-readFrom zero job N R Q at = refused 3 at
-readFrom (suc n) job N R Q at = onward (readFrom n job) job N R Q at (checked N R Q (fieldAt job at))
+unfoldable pub readFrom : ℕ → List ℕ → Head → Moment → ℕ → Reading
+readFrom zero job H b at = refused 3 at
+readFrom (suc n) job H b at = onward (readFrom n job) job H b at (checked H b (fieldAt job at))
 
 -- The whole job, from its first byte. No N stands before the first field, which is the only one that needs none.
 unfoldable pub reading : List ℕ → Reading
-reading job = readFrom (suc (length job)) job 0 0 0 0
+reading job = readFrom (suc (length job)) job unsized start 0
 
--- The items of a job, as a function of its bytes.
+-- What its first field says, its items, and what its report is held against, as functions of the job's bytes.
+abbrev pub headIn : List ℕ → Head
+headIn job = headOf (reading job)
+
 abbrev pub itemsIn : List ℕ → List Item
 itemsIn job = itemsOf (reading job)
+
+abbrev pub matterIn : List ℕ → Matter
+matterIn job = matterOf (headIn job) (itemsIn job)
+
+-- The longest job, 43,008 bytes: 5 + 36,000 + 7,000 + 3. Refusal 1 holds a job against it.
+abbrev pub longest : List ℕ → ℕ
+longest job = 43008
+
+-- The named places: 4,000 of the record table, 32,768 of the work table. Refusal 2 holds the tables against them.
+abbrev pub namedPlaces : ℕ
+namedPlaces = 4000
+
+abbrev pub namedNumbers : ℕ
+namedNumbers = 32768

@@ -4,8 +4,9 @@
 ghost use mathlib.Core.Path.{_≡_};
 ghost use Prim.Native.Nat.{_+_, _≤_};
 ghost use lib.ListN.{length};
-ghost use Rattle.job.specs.Reading.{numberAt, kindAt, laterKind, known, bodyLength, bodyAt, ofKind, fieldAt};
-ghost use Rattle.job.specs.Answer.{numberOf, kindOf, said, spanOfField};
+ghost use Rattle.job.specs.Reading.{byteAt, numberAt, kindAt, laterKind, known, bodyLength, says, bodyAt, behindAt, ofKind, fieldAt};
+ghost use Rattle.job.specs.Answer.{numberOf, kindOf, noteSaid, said};
+ghost use Rattle.job.specs.Items.{standsFor};
 use meaning::Tag;
 
 // Why a job is refused, in the order of document 01's numbers, 3 to 8.
@@ -49,14 +50,24 @@ pub enum Kind {
     Unknown,
 }
 
-// What stands at a place of a job.
+// A note of the job, which is `Note` in specs/Items: a record.
+pub enum Line {
+    Equation(Tag, Tag),
+    Application(Tag, Tag, Tag),
+}
+
+// A question of the job, which is `Question` in specs/Items.
+pub enum Query {
+    Ask(Tag, Tag),
+    Explain(Tag, Tag),
+}
+
+// What stands at a place of a job. A new kind is a new `Line` or `Query`: here the cases stay these five.
 pub enum Field {
     Bad(Fault),
     Header(u16),
-    Equation(Tag, Tag),
-    Application(Tag, Tag, Tag),
-    Ask(Tag, Tag),
-    Explain(Tag, Tag),
+    Noted(Line),
+    Posed(Query),
     End,
 }
 
@@ -75,6 +86,7 @@ fn kind_at(at: usize, byte: u8) -> Kind
     }
 }
 
+// The kind that a byte names behind the first field.
 fn later_kind(byte: u8) -> Kind
     ensures { λ r. ⌜ kindOf r ≡ laterKind byte ⌝ }
 {
@@ -88,6 +100,7 @@ fn later_kind(byte: u8) -> Kind
     }
 }
 
+// Whether a byte named a kind of the table.
 fn is_known(kind: Kind) -> bool
     ensures { λ r. ⌜ r ≡ known (kindOf kind) ⌝ }
 {
@@ -117,40 +130,63 @@ fn body_length(kind: Kind) -> u16
     }
 }
 
+// How many records a note stands for.
+pub fn stands_for(l: Line) -> u16
+    ensures { λ r. ⌜ r ≡ length (standsFor (noteSaid l)) ⌝ }
+{
+    match l {
+        Line::Equation(_, _) => 1,
+        Line::Application(_, _, _) => 1,
+    }
+}
+
+// A byte of the job; one that is not there counts as 0.
+fn byte(job: &[u8], at: usize) -> u8
+    ensures { λ r. ⌜ r ≡ byteAt (now (job .entry)) at ⌝ }
+{
+    if at < job.len() { job[at] } else { 0 }
+}
+
 // A number is two bytes, high byte first.
 fn number(job: &[u8], at: usize) -> u16
-    requires { ⌜ at + 2 ≤ length (now job) ⌝ }
+    requires { ⌜ at ≤ length (now job) + 4 ⌝ }
     ensures { λ r. ⌜ r ≡ numberAt (now (job .entry)) at ⌝ }
 {
-    let high = job[at] as u16;
-    let low = job[at + 1] as u16;
+    let high = byte(job, at) as u16;
+    let low = byte(job, at + 1) as u16;
     high * 256 + low
 }
 
-fn tag(job: &[u8], at: usize) -> Tag
-    requires { ⌜ at + 2 ≤ length (now job) ⌝ }
-    ensures { λ r. ⌜ r .0 ≡ numberAt (now (job .entry)) at ⌝ }
-{
-    Tag(number(job, at))
-}
-
-// The body of a kind, at a place where all of it is there.
-fn body(job: &[u8], at: usize, kind: Kind) -> Field
-    requires { ⌜ at + bodyLength (kindOf kind) ≤ length (now job) ⌝ }
-    ensures { λ r. ⌜ said r ≡ bodyAt (now (job .entry)) at (kindOf kind) ⌝ }
+// What a kind says with the numbers of its body: here they become tags.
+fn meant(kind: Kind, a: u16, b: u16, c: u16) -> Field
+    ensures { λ r. ⌜ said r ≡ says (kindOf kind) a b c ⌝ }
 {
     match kind {
-        Kind::First => Field::Header(number(job, at)),
-        Kind::Equal => Field::Equation(tag(job, at), tag(job, at + 2)),
-        Kind::Apply => Field::Application(tag(job, at), tag(job, at + 2), tag(job, at + 4)),
-        Kind::Asked => Field::Ask(tag(job, at), tag(job, at + 2)),
-        Kind::Explained => Field::Explain(tag(job, at), tag(job, at + 2)),
+        Kind::First => Field::Header(a),
+        Kind::Equal => Field::Noted(Line::Equation(Tag(a), Tag(b))),
+        Kind::Apply => Field::Noted(Line::Application(Tag(a), Tag(b), Tag(c))),
+        Kind::Asked => Field::Posed(Query::Ask(Tag(a), Tag(b))),
+        Kind::Explained => Field::Posed(Query::Explain(Tag(a), Tag(b))),
         Kind::Last => Field::End,
         Kind::Unknown => Field::Bad(Fault::Misplaced),
     }
 }
 
-fn wide(x: u16) -> usize
+// The field of a kind whose body stands at a place, by the body's numbers.
+fn body(job: &[u8], at: usize, kind: Kind) -> Field
+    requires { ⌜ at ≤ length (now job) ⌝ }
+    ensures { λ r. ⌜ said r ≡ bodyAt (now (job .entry)) at (kindOf kind) ⌝ }
+{
+    meant(
+        kind,
+        number(job, at),
+        number(job, at + 2),
+        number(job, at + 4),
+    )
+}
+
+// A number of two bytes as a place.
+pub fn wide(x: u16) -> usize
     ensures { λ r. ⌜ r ≡ x ⌝ }
 {
     x as usize
@@ -165,7 +201,7 @@ fn of_kind(job: &[u8], at: usize, kind: Kind) -> Field
         let due = body_length(kind);
         let stated = number(job, at + 1);
         if stated == due {
-            if wide(due) <= job.len() - (at + 3) {
+            if wide(stated) <= job.len() - (at + 3) {
                 body(job, at + 3, kind)
             } else {
                 Field::Bad(Fault::Cut)
@@ -191,19 +227,12 @@ pub fn field_at(job: &[u8], at: usize) -> Field
     of_kind(job, at, kind_at(at, job[at]))
 }
 
-// The bytes that a field fills, so that the next one stands so many further on.
-pub fn span(field: Field) -> usize
-    ensures { λ r. ⌜ r ≡ spanOfField (said field) ⌝ }
+// The place behind a field: its three bytes and as many as it states further on.
+pub fn behind(job: &[u8], at: usize) -> usize
+    requires { ⌜ at ≤ length (now job) ⌝ }
+    ensures { λ r. ⌜ r ≡ behindAt (now (job .entry)) at ⌝ }
 {
-    match field {
-        Field::Bad(_) => 0,
-        Field::Header(_) => 5,
-        Field::Equation(_, _) => 7,
-        Field::Application(_, _, _) => 9,
-        Field::Ask(_, _) => 7,
-        Field::Explain(_, _) => 7,
-        Field::End => 3,
-    }
+    at + (3 + wide(number(job, at + 1)))
 }
 
 // The thin reader: the job's slice and a position in it, over the cursor.

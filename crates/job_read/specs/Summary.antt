@@ -2,22 +2,22 @@
 -- Assumes nothing.
 use Prim.Native.Nat.{ℕ}
 use lib.ListN.{length}
-use Rattle.job.specs.Items.{Reading, refused, accepted, recordsOf, questionsOf, neededRoom}
+use Rattle.job.specs.Items.{Head, start, Reading, refused, accepted, recordsOf, questionsOf, neededRoom}
 use Rattle.job.specs.Answer.{numberOf}
 use Rattle.job_read.specs.declared.Answer.{Answer}
 use Rattle.job_read.specs.declared.Answer.the-variants.{Refused, Accepted}
 
--- What a whole reading comes to: a refusal's number and place; or N, the number of records, the number of questions and the needed
+-- What a whole reading comes to: a refusal's number and place; or what the first field says, the number of records, the number of questions and the needed
 -- room.
 pub data Summary : Type 0 where
   refusal : ℕ → ℕ → Summary
-  acceptance : ℕ → ℕ → ℕ → ℕ → Summary
+  acceptance : Head → ℕ → ℕ → ℕ → Summary
 
 abbrev pub summary : Reading → Summary
 summary (refused n p) = refusal n p
-summary (accepted N is) = acceptance N (length (recordsOf is)) (questionsOf is) (neededRoom N 0 is)
+summary (accepted H is) = acceptance H (length (recordsOf is)) (questionsOf is) (neededRoom H start is)
 
 -- The same of what the code answers, by document 01's numbers.
 abbrev pub told : Answer → Summary
 told (Refused f p) = refusal (numberOf f) p
-told (Accepted N R Q room) = acceptance N R Q room
+told (Accepted N R Q room) = acceptance (record { size = N }) R Q room

@@ -5,8 +5,10 @@ use Prim.Native.Nat.{ℕ, suc, _+_, _*_, _≤_, _<_}
 use mathlib.Core.Path.{_≡_}
 use mathlib.Core.List.{List}
 use lib.ListN.{length}
-use Rattle.job.specs.Items.{Reading, refused, accepted, recordsOf, questionsOf, neededRoom}
+use Rattle.job.specs.Items.{Head, Moment, Reading, refused, accepted, recordsOf, questionsOf, neededRoom}
 use Rattle.job.specs.Reading.{readFrom}
+use Rattle.job.specs.Standing.{Few}
+use Rattle.limits.specs.Counts.{momentOf}
 use Rattle.job_read.specs.declared.Answer.{Answer}
 use Rattle.job_read.specs.declared.Seen.{Seen}
 use Rattle.job_read.specs.declared.Turn.{Turn}
@@ -14,20 +16,22 @@ use Rattle.job_read.specs.declared.Turn.the-variants.{On, Done}
 use Rattle.job_read.specs.Summary.{Summary, refusal, acceptance, told}
 
 -- The summary of what was seen and of what is still to be read.
-abbrev pub tally : ℕ → ℕ → ℕ → Reading → Summary
-tally R Q room (refused n p) = refusal n p
-tally R Q room (accepted N is) = acceptance N (R + length (recordsOf is)) (Q + questionsOf is) (room + neededRoom N R is)
+abbrev pub tally : Moment → ℕ → Reading → Summary
+tally b room (refused n p) = refusal n p
+tally b room (accepted H is) = acceptance H (b .records + length (recordsOf is)) (b .questions + questionsOf is) (room + neededRoom H b is)
+
+abbrev pub headSeen : Seen → Head
+headSeen s = record { size = s .size }
 
 abbrev pub tallied : ℕ → List ℕ → Seen → Summary
-tallied fuel job s = tally (s .records) (s .questions) (s .room) (readFrom fuel job (s .size) (s .records) (s .questions) (s .at))
+tallied fuel job s = tally (momentOf (s .counts)) (s .room) (readFrom fuel job (headSeen s) (momentOf (s .counts)) (s .at))
 
 -- What has been seen stands within the job and within the limits.
 pub record Going (job : List ℕ) (s : Seen) : Type 0 where
   pub within : s .at ≤ length job
   pub size : s .size ≤ 1000
-  pub records : s .records ≤ 4000
-  pub questions : s .questions ≤ 1000
-  pub room : s .room ≤ 4000 * s .questions
+  pub few : Few (momentOf (s .counts))
+  pub room : s .room ≤ 4000 * s .counts .questions
 
 -- One field more: reading goes on behind it with the same outcome, or that outcome is known.
 pub data Turned (job : List ℕ) (s : Seen) : Turn → Type 0 where

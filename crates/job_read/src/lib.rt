@@ -3,13 +3,21 @@
 ghost use mathlib.Core.Path.{_≡_};
 ghost use Prim.Native.Nat.{_+_, _*_, _-_, _≤_, _<_, min};
 ghost use lib.ListN.{length};
-ghost use Rattle.job.specs.Reading.{behind, reading};
+ghost use Rattle.job.specs.Items.{roomOf};
+ghost use Rattle.job.specs.Answer.{questionSaid};
+ghost use Rattle.job.specs.Reading.{behind as behindEnd, behindAt, reading};
+ghost use Rattle.limits.specs.Counts.{momentOf};
 ghost use Rattle.job_read.specs.Summary.{told, summary};
-ghost use Rattle.job_read.specs.Turns.{tally, Going, Turned};
+ghost use Rattle.job_read.specs.Turns.{headSeen, tally, Going, Turned};
 use job::Fault;
 use job::Field;
+use job::Query;
+use job::behind;
 use job::read;
+use limits::Counts;
 use limits::allowed;
+use limits::past_note;
+use limits::past_question;
 
 // The room that the report needs for the totals, and for an ask.
 const ROOM_OF_TOTALS: usize = 7;
@@ -34,8 +42,7 @@ pub enum Answer {
 pub struct Seen {
     pub at: usize,
     pub size: u16,
-    pub records: u16,
-    pub questions: u16,
+    pub counts: Counts,
     pub room: usize,
 }
 
@@ -66,18 +73,30 @@ fn most_numbers(size: u16, records: u16) -> usize
     }
 }
 
+// The room that a question needs at its moment.
+fn room_of(size: u16, c: Counts, q: Query) -> usize
+    requires { ⌜ size ≤ 1000 ⌝ }
+    ensures { λ r. ⌜ (r ≡ roomOf (record { size = size }) (momentOf c) (questionSaid q)) × (r ≤ 4000) ⌝ }
+{
+    let most = most_numbers(size, c.records);
+    match q {
+        Query::Ask(_, _) => ROOM_OF_ASK,
+        Query::Explain(_, _) => 3 + 2 * most,
+    }
+}
+
 // Behind the end field nothing may stand.
 fn ended(job: &[u8], s: Seen) -> Answer
     requires { ⌜ Going (now job) s ⌝ }
-    requires { ⌜ s .at + 3 ≤ length (now job) ⌝ }
-    ensures { λ r. ⌜ told r ≡ tally (s .records) (s .questions) (s .room) (behind (now (job .entry)) (s .size) (s .at + 3)) ⌝ }
+    requires { ⌜ behindAt (now job) (s .at) ≤ length (now job) ⌝ }
+    ensures { λ r. ⌜ told r ≡ tally (momentOf (s .counts)) (s .room) (behindEnd (now (job .entry)) (headSeen s) (behindAt (now (job .entry)) (s .at))) ⌝ }
 {
-    let next = s.at + 3;
+    let next = behind(job, s.at);
     if job.len() <= next {
         Answer::Accepted {
             size: s.size,
-            records: s.records,
-            questions: s.questions,
+            records: s.counts.records,
+            questions: s.counts.questions,
             room: s.room + ROOM_OF_TOTALS,
         }
     } else {
@@ -94,43 +113,28 @@ fn advance(job: &[u8], s: Seen) -> Turn
     ensures { λ r. ⌜ Turned (now (job .entry)) s r ⌝ }
 {
     let at = s.at;
-    let field = allowed(s.size, s.records, s.questions, read(job, at));
+    let counts = s.counts;
+    let next = behind(job, at);
+    let field = allowed(s.size, counts, read(job, at));
     match field {
         Field::Bad(fault) => Turn::Done(Answer::Refused { fault, place: at }),
         Field::Header(n) => Turn::On(Seen {
-            at: at + 5,
+            at: next,
             size: n,
-            records: s.records,
-            questions: s.questions,
+            counts,
             room: s.room,
         }),
-        Field::Equation(_, _) => Turn::On(Seen {
-            at: at + 7,
+        Field::Noted(l) => Turn::On(Seen {
+            at: next,
             size: s.size,
-            records: s.records + 1,
-            questions: s.questions,
+            counts: past_note(counts, l),
             room: s.room,
         }),
-        Field::Application(_, _, _) => Turn::On(Seen {
-            at: at + 9,
+        Field::Posed(q) => Turn::On(Seen {
+            at: next,
             size: s.size,
-            records: s.records + 1,
-            questions: s.questions,
-            room: s.room,
-        }),
-        Field::Ask(_, _) => Turn::On(Seen {
-            at: at + 7,
-            size: s.size,
-            records: s.records,
-            questions: s.questions + 1,
-            room: s.room + ROOM_OF_ASK,
-        }),
-        Field::Explain(_, _) => Turn::On(Seen {
-            at: at + 7,
-            size: s.size,
-            records: s.records,
-            questions: s.questions + 1,
-            room: s.room + (3 + 2 * most_numbers(s.size, s.records)),
+            counts: past_question(counts, q),
+            room: s.room + room_of(s.size, counts, q),
         }),
         Field::End => Turn::Done(ended(job, s)),
     }
@@ -143,8 +147,10 @@ pub fn read_job(job: &[u8]) -> Answer
     let mut s = Seen {
         at: 0,
         size: 0,
-        records: 0,
-        questions: 0,
+        counts: Counts {
+            records: 0,
+            questions: 0,
+        },
         room: 0,
     };
     loop {

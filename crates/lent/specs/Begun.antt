@@ -6,7 +6,7 @@ use mathlib.Core.Path.{_≡_}
 use mathlib.Core.Bool.{true}
 use mathlib.Core.List.{List}
 use lib.ListN.{length}
-use Rattle.job.specs.Items.{Item, accepted, recordsOf}
+use Rattle.job.specs.Items.{Head, Item, accepted, recordsOf}
 use Rattle.job.specs.Reading.{reading}
 use Rattle.table.specs.Map.{recordsIn, Loaded}
 use Rattle.sight.specs.declared.Sight.{Sight}
@@ -16,4 +16,4 @@ pub record Begun (job work : List ℕ) (s : Sight) : Type 0 where
   pub places : ℕ
   pub looked : Looked job places (length work) s
   pub loaded : s .ready ≡ true → Loaded (s .size) (s .records) work
-  pub columns : (N : ℕ) (items : List Item) → reading job ≡ accepted N items → s .ready ≡ true → recordsIn (s .records) work ≡ recordsOf items
+  pub columns : (H : Head) (items : List Item) → reading job ≡ accepted H items → s .ready ≡ true → recordsIn (s .records) work ≡ recordsOf items

@@ -3,15 +3,16 @@
 use Prim.Native.Nat.{ℕ, _≤_}
 use mathlib.Core.List.{List}
 use lib.ListN.{length}
+use Rattle.job.specs.Reading.{longest, namedPlaces, namedNumbers}
 use Rattle.records.specs.declared.Record.{Record}
 use Rattle.records.specs.Table.{Blanked}
 use Rattle.lent.specs.Clear.{Cleared}
 
 -- Neither the job nor a table is at fault by its length.
 pub record Lent (job : List ℕ) (records : List Record) (work : List ℕ) : Type 0 where
-  pub short : length job ≤ 43008
-  pub places : 4000 ≤ length records
-  pub numbers : 32768 ≤ length work
+  pub short : length job ≤ longest job
+  pub places : namedPlaces ≤ length records
+  pub numbers : namedNumbers ≤ length work
 
 -- After any later answer than 1 and 2, the named places of both tables are zero and the rest is as it was.
 pub record Emptied (records : List Record) (work : List ℕ) (records′ : List Record) (work′ : List ℕ) : Type 0 where

@@ -10,14 +10,13 @@ use mathlib.Core.List.{List, [], _∷_}
 use lib.Dec.{eqb}
 use lib.ListN.{length, getD, take, drop, length-append, length-take, length-drop, List·getD-eq-default}
 use lib.Seq.{getD-drop, getD-take}
-use Rattle.meaning.specs.Following.{eq, app}
-use Rattle.job.specs.Items.{Item, noted, ask, explain, accepted, questionsOf}
-use Rattle.job.specs.Reading.{byteAt, numberAt, reading}
-use Rattle.job.specs.Standing.{Stands, ends, next}
+use Rattle.job.specs.Items.{Head, Question, ask, explain, tagsOfQuestion, Item, noted, posed, accepted, questionsOf}
+use Rattle.job.specs.Reading.{byteAt, numberAt, behindAt, reading}
+use Rattle.job.specs.Standing.{Below, Stands, ends, next}
 use Rattle.job.proofs.Standing.{accepted-stands}
 use Rattle.digits.specs.Digits.{digits}
 use Rattle.line_text.specs.Line.{parted, line, askLine}
-use Rattle.field_text.specs.Fields.{numbersIn, bodyOf, explainLine, lineOf, totalsLine}
+use Rattle.field_text.specs.Fields.{numbersIn, bodyOf, explainLine, questionLine, totalsLine}
 use Rattle.lines.specs.Lines.{linesOf, refusalLine}
 use Rattle.digits.proofs.Digits.{digits-one, digits-more}
 use Rattle.field_text.proofs.Parts.{length-numbers}
@@ -113,25 +112,26 @@ module _ (report : List ℕ) (b : Bytes report) where
           omega (arith, line-size 69 (s ∷ t ∷ length ns ∷ ns), parted-more s (t ∷ length ns ∷ ns), parted-more t (length ns ∷ ns), parted-more (length ns) ns, digits-five s h, digits-five t k, digits-five (length ns) many, numbers-size (bodyOf report) body-bytes)
       go false = omega (arith, pair-size 78 s t h k)
 
+-- The line of a question: three bytes for each byte of its answer's body, and 26 more.
+question-size : (report : List ℕ) → Bytes report → (N : ℕ) (q : Question) → N ≤ 1000 → Below N (tagsOfQuestion q) → length (questionLine q report) ≤ 26 + 3 * length (bodyOf report)
+question-size report b N (ask x y) small t = omega (arith, ask-size x y (numberAt report 3) (numberAt report 5) (omega (arith, t .0)) (omega (arith, t .1 .0)) (number-small report b 3) (number-small report b 5))
+question-size report b N (explain x y) small t = omega (arith, explain-size report b x y (byteAt report 0) (omega (arith, t .0)) (omega (arith, t .1 .0)))
+
 -- The lines of the items that stand in a job: three bytes for each byte of the report, and 26 for each question.
 lines-size : (job : List ℕ) (N at : ℕ) (items : List Item) → N ≤ 1000 → Stands job N at items → (report : List ℕ) → Bytes report
     → length (linesOf items report) ≤ 3 * length report + 26 * questionsOf items + 14
 unfolding linesOf totalsLine
 lines-size job N at items small (ends e l) report b = omega (arith, pair-size 84 (numberAt report 3) (numberAt report 5) (number-small report b 3) (number-small report b 5))
-lines-size job N at items small (next {i = noted (eq x y)} {is = is} e t l s) report b = lines-size job N (at + 7) is small s report b
-lines-size job N at items small (next {i = noted (app x y z)} {is = is} e t l s) report b = lines-size job N (at + 9) is small s report b
-lines-size job N at items small (next {i = ask x y} {is = is} e t l s) report b =
+lines-size job N at items small (next {i = noted n} {is = is} e t l s) report b = lines-size job N (behindAt job at) is small s report b
+lines-size job N at items small (next {i = posed q} {is = is} e t l s) report b =
     let w : ℕ = 3 + numberAt report 1 in
-    omega (arith, length-append (lineOf (ask x y) report) (linesOf is (drop w report)), length-drop w report, ask-size x y (numberAt report 3) (numberAt report 5) (omega (arith, t .0)) (omega (arith, t .1)) (number-small report b 3) (number-small report b 5), lines-size job N (at + 7) is small s (drop w report) (bytes-drop w report b))
-lines-size job N at items small (next {i = explain x y} {is = is} e t l s) report b =
-    let w : ℕ = 3 + numberAt report 1 in
-    omega (arith, length-append (lineOf (explain x y) report) (linesOf is (drop w report)), length-drop w report, length-body report b, explain-size report b x y (byteAt report 0) (omega (arith, t .0)) (omega (arith, t .1)), lines-size job N (at + 7) is small s (drop w report) (bytes-drop w report b))
+    omega (arith, length-append (questionLine q report) (linesOf is (drop w report)), length-drop w report, length-body report b, question-size report b N q small t, lines-size job N (behindAt job at) is small s (drop w report) (bytes-drop w report b))
 
 -- A report of at most 60,000 bytes has a text of at most 206,014.
-pub report-size : (job : List ℕ) (N : ℕ) (items : List Item) → reading job ≡ accepted N items → (report : List ℕ) → Bytes report → length report ≤ 60000 → length (linesOf items report) ≤ 206014
-report-size job N items e report b h =
-    let j = accepted-stands job N items e in
-    omega (arith, j .questions, lines-size job N 5 items (j .most) (j .stands) report b)
+pub report-size : (job : List ℕ) (H : Head) (items : List Item) → reading job ≡ accepted H items → (report : List ℕ) → Bytes report → length report ≤ 60000 → length (linesOf items report) ≤ 206014
+report-size job H items e report b h =
+    let j = accepted-stands job H items e in
+    omega (arith, j .questions, lines-size job (H .size) (behindAt job 0) items (j .most) (j .stands) report b)
 
 -- A refusal is a short line, whatever its number and place.
 pub refusal-size : (number place : ℕ) → number < 256 → place < 18446744073709551616 → length (refusalLine number place) ≤ 206014

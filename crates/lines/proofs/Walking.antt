@@ -8,10 +8,8 @@ use mathlib.Core.Path.{_≡_, sym, _∙_, ap}
 use mathlib.Core.List.{List, append-nil}
 use lib.ListN.{length, drop, drop-of-length-le}
 use lib.Seq.{drop-drop}
-use Rattle.meaning.specs.Following.{eq, app}
-use Rattle.job.specs.Items.{Item, noted, ask, explain}
-use Rattle.job.specs.Reading.{Field, item, end, bad, header, fieldAt, spanOf}
-use Rattle.job.specs.Answer.{spanOfField}
+use Rattle.job.specs.Items.{Item}
+use Rattle.job.specs.Reading.{behindAt, fieldAt}
 use Rattle.job.specs.Standing.{Stands, ends, next}
 use Rattle.job.proofs.Standing.{stands-within}
 use Rattle.field_text.specs.Fields.{lineOf, widthOf, totalsLine, textAt, widthAt}
@@ -35,31 +33,10 @@ drop-min n bytes = go (decLe n (length bytes))
         let k : length bytes ≤ n = omega arith in
         rw e (drop-of-length-le bytes l ∙ sym (drop-of-length-le bytes k))
 
--- A field fills three bytes or more where something stands.
-spans : (i : Item) → 3 ≤ spanOf i
-spans (noted (eq a b)) = omega arith
-spans (noted (app a b c)) = omega arith
-spans (ask a b) = omega arith
-spans (explain a b) = omega arith
-
-pub span-small : (f : Field) → spanOfField f ≤ 9
-span-small (bad n) = omega arith
-span-small (header N) = omega arith
-span-small (item (noted (eq a b))) = omega arith
-span-small (item (noted (app a b c))) = omega arith
-span-small (item (ask a b)) = omega arith
-span-small (item (explain a b)) = omega arith
-span-small end = omega arith
-
 module _ (job report text room : List ℕ) (at from : ℕ) where
-  pub walk-falls : (room′ : List ℕ) (place : ℕ) → Walked job report text room at from room′ place → at < length job → 3 ≤ spanOfField (fieldAt job at)
-  walk-falls room′ place (underway (ends e l) h) k = rw e (omega arith)
-  walk-falls room′ place (underway (next {i = i} e t l s) h) k = rw e (spans i)
-  walk-falls room′ place (finished l p) k = absurd (omega arith)
-
   pub walk-on : (room′ room″ : List ℕ) (place place′ : ℕ) → Walked job report text room at from room′ place → at < length job
       → Put (textAt (fieldAt job at) (drop from report)) room′ place room″ place′
-      → Walked job report text room (at + spanOfField (fieldAt job at)) (from + min (widthAt (fieldAt job at) (drop from report)) (length (drop from report))) room″ place′
+      → Walked job report text room (behindAt job at) (from + min (widthAt (fieldAt job at) (drop from report)) (length (drop from report))) room″ place′
   unfolding linesOf
   walk-on room′ room″ place place′ (underway (ends e l) h) k p =
       rw e (finished (omega arith) (half-done (half-more (half-as (sym (append-nil (totalsLine (drop from report)))) h) (rw e at p))))

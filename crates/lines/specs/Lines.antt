@@ -20,4 +20,4 @@ refusalLine number place = line 82 (number ∷ place ∷ [])
 -- The text of a job as it is read, with its report.
 abbrev pub textOf : Reading → List ℕ → List ℕ
 textOf (refused number place) report = refusalLine number place
-textOf (accepted N items) report = linesOf items report
+textOf (accepted H items) report = linesOf items report

@@ -4,7 +4,7 @@ use Prim.Native.Nat.{ℕ, _≤_, _<_}
 use mathlib.Core.Path.{_≡_}
 use mathlib.Core.List.{List, _++_}
 use lib.ListN.{length, take, drop}
-use Rattle.job.specs.Items.{Item, accepted}
+use Rattle.job.specs.Items.{Head, Item, accepted}
 use Rattle.job.specs.Reading.{reading}
 use Rattle.lines.specs.declared.Told.{Told}
 use Rattle.lines.specs.declared.Told.the-variants.{Whole, Full}
@@ -21,6 +21,6 @@ pub data Ended (next room : ℕ) : Told → Type 0 where
   past : room < next → Ended next room Full
 
 pub record Accepted (job : List ℕ) : Type 0 where
-  pub size : ℕ
+  pub head : Head
   pub items : List Item
-  pub reads : reading job ≡ accepted size items
+  pub reads : reading job ≡ accepted head items

@@ -6,9 +6,9 @@ ghost use Rattle.lines.specs.Lines.{linesOf, refusalLine, textOf};
 ghost use Rattle.lines.specs.Told.{Tells, Ended, Accepted};
 use field_text::passed;
 use field_text::put_field;
+use job::behind;
 use job::number_of;
 use job::read;
-use job::span;
 use job_read::Answer;
 use job_read::read_job;
 use line_text::put_pair;
@@ -24,7 +24,7 @@ fn put_items(job: &[u8], report: &[u8], out: &mut [u8]) -> usize
     requires { ⌜ Accepted (now job) ⌝ }
     ensures { λ r. ⌜ Put (linesOf (itemsIn (now (job .entry))) (now (report .entry))) (now (out .entry)) 0 (now (out .exit)) r ⌝ }
 {
-    let mut at = 5;
+    let mut at = behind(job, 0);
     let mut from = 0;
     let mut next = 0;
     while at < job.len() {
@@ -32,7 +32,7 @@ fn put_items(job: &[u8], report: &[u8], out: &mut [u8]) -> usize
         let rest = &report[from..];
         next = put_field(field, rest, out, next);
         from += passed(field, rest);
-        at += span(field);
+        at = behind(job, at);
     }
     next
 }

@@ -1,17 +1,21 @@
-// The records of a job as the cursor meets them: the next one at a place, behind the questions that stand there, as it stands in the record
+// The records of a job as the cursor meets them: the next one at a place, with what is no record passed over, as it stands in the record
 // table. Document 01, "The job and the report". Rests on meaning, job and records.
 ghost use mathlib.Core.Path.{_≡_};
 ghost use Rattle.meaning.specs.Following.{eq, app};
+ghost use Rattle.job.specs.Items.{standsFor};
 ghost use Rattle.job.specs.Reading.{fieldAt};
+ghost use Rattle.job.specs.Answer.{noteSaid};
 ghost use Rattle.records.specs.Table.{placeOf};
-ghost use Rattle.next_record.specs.Seeking.{foundAt, noRecord, Seeks};
+ghost use Rattle.next_record.specs.Seeking.{foundIn, foundAt, noRecord, Seeks};
 use job::Field;
+use job::Line;
+use job::behind;
 use job::read;
 use meaning::Tag;
 use records::Record;
 
-// What the cursor found at a place: a question, which is passed over, or a record as it stands in the record table; and where the
-// next field stands.
+// What the cursor found at a place: a field that is passed over (the first one, a question or a note that stands for no record: `question`
+// is true for each), or a record as it stands in the record table; and where the next field stands.
 pub struct Found {
     pub question: bool,
     pub place: Record,
@@ -58,31 +62,39 @@ fn no_record(question: bool, next: usize) -> Found
     }
 }
 
+// What a note gives, where the next field stands at `next`.
+fn note_found(l: Line, next: usize) -> Found
+    ensures { λ r. ⌜ r ≡ foundIn next (standsFor (noteSaid l)) ⌝ }
+{
+    match l {
+        Line::Equation(a, b) => Found {
+            question: false,
+            place: equation(a, b),
+            next,
+        },
+        Line::Application(a, b, c) => Found {
+            question: false,
+            place: application(a, b, c),
+            next,
+        },
+    }
+}
+
 // What stands at a place.
 fn look(job: &[u8], at: usize) -> Found
-    ensures { λ r. ⌜ r ≡ foundAt at (fieldAt (now (job .entry)) at) ⌝ }
+    ensures { λ r. ⌜ r ≡ foundAt (now (job .entry)) at (fieldAt (now (job .entry)) at) ⌝ }
 {
     let field = read(job, at);
     match field {
-        Field::Equation(a, b) => Found {
-            question: false,
-            place: equation(a, b),
-            next: at + 7,
-        },
-        Field::Application(a, b, c) => Found {
-            question: false,
-            place: application(a, b, c),
-            next: at + 9,
-        },
-        Field::Ask(_, _) => no_record(true, at + 7),
-        Field::Explain(_, _) => no_record(true, at + 7),
+        Field::Noted(l) => note_found(l, behind(job, at)),
+        Field::Posed(_) => no_record(true, behind(job, at)),
+        Field::Header(_) => no_record(true, behind(job, at)),
         Field::Bad(_) => no_record(false, at),
-        Field::Header(_) => no_record(false, at),
         Field::End => no_record(false, at),
     }
 }
 
-// The first record at a place or behind the questions that stand there.
+// The first record at a place or behind the fields there that are passed over.
 pub fn next_record(job: &[u8], at: usize) -> Found
     ensures { λ r. ⌜ Seeks (now (job .entry)) at r ⌝ }
 {

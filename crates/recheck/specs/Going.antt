@@ -4,8 +4,8 @@ use Prim.Native.Nat.{ℕ, _+_, _≤_, _<_}
 use mathlib.Core.Path.{_≡_}
 use mathlib.Core.List.{List}
 use lib.ListN.{length, drop}
-use Rattle.job.specs.Items.{Item, recordsOf}
-use Rattle.job.specs.Reading.{itemsIn}
+use Rattle.job.specs.Items.{Moment, start, Item, recordsOf}
+use Rattle.job.specs.Reading.{headIn, itemsIn, matterIn}
 use Rattle.job.specs.Standing.{Stands}
 use Rattle.table.specs.Map.{Within}
 use Rattle.report.specs.Report.{Sound}
@@ -21,14 +21,16 @@ use Rattle.recheck.specs.Judging.{Verdict}
 
 -- The items that are left stand at the place in the job; the fields before the place in the report are right, so that what the bytes
 -- from there on are decides the whole.
-pub record Going (job report : List ℕ) (N : ℕ) (s : Stand) : Type 0 where
+pub record Going (job report : List ℕ) (s : Stand) : Type 0 where
   pub left : List Item
-  pub stands : Stands job N (s .at) left
+  pub stands : Stands job (headIn job .size) (s .at) left
+  pub moment : Moment
+  pub passed : moment .records ≡ s .before
   pub counted : s .before + length (recordsOf left) ≡ length (recordsOf (itemsIn job))
   pub within : s .place ≤ length report
-  pub sound : Sound N (recordsOf (itemsIn job)) (s .before) left (drop (s .place) report) → Sound N (recordsOf (itemsIn job)) 0 (itemsIn job) report
-  pub fault : (p : ℕ) → FaultAt N (recordsOf (itemsIn job)) (s .before) left (s .place) (drop (s .place) report) p
-      → FaultAt N (recordsOf (itemsIn job)) 0 (itemsIn job) 0 report p
+  pub sound : Sound (matterIn job) moment left (drop (s .place) report) → Sound (matterIn job) start (itemsIn job) report
+  pub fault : (p : ℕ) → FaultAt (matterIn job) moment left (s .place) (drop (s .place) report) p
+      → FaultAt (matterIn job) start (itemsIn job) 0 report p
 
 -- Behind a question: at the next item of the job, where its field is right, and at fault at the field's first byte, where it is not.
 abbrev pub behind : Passed → ℕ → ℕ → ℕ → Turn
@@ -36,10 +38,10 @@ behind (To p) at place before = On (record { at = at; place = p; before = before
 behind Wrong at place before = Done (Fault place)
 
 -- One item more: the judge goes on behind it, or has its answer.
-pub data Turned (job report : List ℕ) (N : ℕ) (s : Stand) : Turn → Type 0 where
-  on : {t : Stand} → s .at < t .at → Going job report N t → Turned job report N s (On t)
-  done : {answer : Judgement} → Verdict N (recordsOf (itemsIn job)) 0 (itemsIn job) 0 report answer → Turned job report N s (Done answer)
+pub data Turned (job report : List ℕ) (s : Stand) : Turn → Type 0 where
+  on : {t : Stand} → s .at < t .at → Going job report t → Turned job report s (On t)
+  done : {answer : Judgement} → Verdict (matterIn job) start (itemsIn job) 0 report answer → Turned job report s (Done answer)
 
-pub record Advanced (job report w w′ : List ℕ) (N : ℕ) (s : Stand) (turn : Turn) : Type 0 where
+pub record Advanced (job report w w′ : List ℕ) (s : Stand) (turn : Turn) : Type 0 where
   pub kept : Within 17003 32096 w w′
-  pub turned : Turned job report N s turn
+  pub turned : Turned job report s turn

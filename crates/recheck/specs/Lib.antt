@@ -1,3 +1,4 @@
 pub mod Ended
 pub mod Going
 pub mod Judging
+pub mod Testing

@@ -5,12 +5,18 @@ ghost use mathlib.Core.Path.{_≡_};
 ghost use Prim.Native.Nat.{_≤_, _<_};
 ghost use lib.ListN.{length};
 ghost use Rattle.recheck.specs.Judging.{Judgeable, Judged};
+ghost use Rattle.job.specs.Answer.{questionSaid};
 ghost use Rattle.recheck.specs.Ended.{question, Ended};
+ghost use Rattle.recheck.specs.Testing.{Testing, Tested};
 ghost use Rattle.recheck.specs.Going.{Going, Advanced, behind};
 use ask_field::Passed;
 use ask_field::led;
 use explain_test::explained;
 use job::Field;
+use job::Query;
+use job::behind;
+use job::stands_for;
+use job::wide;
 use meaning::Tag;
 use question::Question;
 
@@ -85,35 +91,43 @@ fn onward(passed: Passed, at: usize, place: usize, before: usize) -> Turn
     }
 }
 
+// Whether the right answer to a question stands at a place of the report.
+fn tested(
+    report: &[u8],
+    place: usize,
+    work: &mut [u16],
+    closed: Closed,
+    before: usize,
+    q: Query,
+) -> Passed
+    requires { ⌜ Testing (now report) (now work) (closed .size) (closed .len) (closed .joins) before place (questionSaid q) ⌝ }
+    ensures { λ r. ⌜ Tested (now (report .entry)) (now (work .entry)) (now (work .exit)) (closed .size) (closed .len) before place (questionSaid q) r ⌝ }
+{
+    match q {
+        Query::Ask(a, b) => led(report, place, work, posed(closed, before, a, b)),
+        Query::Explain(a, b) => explained(report, place, work, posed(closed, before, a, b)),
+    }
+}
+
 // One item of the job, with the report beside it.
 fn advance(job: &[u8], report: &[u8], work: &mut [u16], closed: Closed, s: Stand) -> Turn
-    requires { ⌜ Judgeable (now job) (now work) (closed .size) (closed .len) (closed .joins) (closed .idle) × Going (now job) (now report) (closed .size) s ⌝ }
-    ensures { λ r. ⌜ Advanced (now (job .entry)) (now (report .entry)) (now (work .entry)) (now (work .exit)) (closed .size) s r ⌝ }
+    requires { ⌜ Judgeable (now job) (now work) (closed .size) (closed .len) (closed .joins) (closed .idle) × Going (now job) (now report) s ⌝ }
+    ensures { λ r. ⌜ Advanced (now (job .entry)) (now (report .entry)) (now (work .entry)) (now (work .exit)) s r ⌝ }
 {
     let at = s.at;
     let place = s.place;
+    let next = behind(job, at);
     match job::read(job, at) {
         Field::Bad(_) => Turn::Done(Judgement::Fault(place)),
         Field::Header(_) => Turn::Done(Judgement::Fault(place)),
-        Field::Equation(_, _) => Turn::On(Stand {
-            at: at + 7,
+        Field::Noted(l) => Turn::On(Stand {
+            at: next,
             place,
-            before: s.before + 1,
+            before: s.before + wide(stands_for(l)),
         }),
-        Field::Application(_, _, _) => Turn::On(Stand {
-            at: at + 9,
-            place,
-            before: s.before + 1,
-        }),
-        Field::Ask(a, b) => onward(
-            led(report, place, work, posed(closed, s.before, a, b)),
-            at + 7,
-            place,
-            s.before,
-        ),
-        Field::Explain(a, b) => onward(
-            explained(report, place, work, posed(closed, s.before, a, b)),
-            at + 7,
+        Field::Posed(q) => onward(
+            tested(report, place, work, closed, s.before, q),
+            next,
             place,
             s.before,
         ),
@@ -132,7 +146,7 @@ pub fn judge(
     idle: usize,
 ) -> Judgement
     requires { ⌜ Judgeable (now job) (now work) size len joins idle ⌝ }
-    ensures { λ r. ⌜ Judged (now (job .entry)) (now (report .entry)) (now (work .entry)) (now (work .exit)) size r ⌝ }
+    ensures { λ r. ⌜ Judged (now (job .entry)) (now (report .entry)) (now (work .entry)) (now (work .exit)) r ⌝ }
 {
     let closed = Closed {
         size,
@@ -141,7 +155,7 @@ pub fn judge(
         idle,
     };
     let mut s = Stand {
-        at: 5,
+        at: behind(job, 0),
         place: 0,
         before: 0,
     };

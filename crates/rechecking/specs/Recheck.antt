@@ -6,8 +6,8 @@ use mathlib.Core.Path.{_≡_}
 use mathlib.Core.Logic.{_⊎_}
 use mathlib.Core.List.{List}
 use lib.ListN.{length}
-use Rattle.job.specs.Items.{Item, refused, accepted, recordsOf}
-use Rattle.job.specs.Reading.{reading}
+use Rattle.job.specs.Items.{Head, Item, start, matterOf, refused, accepted}
+use Rattle.job.specs.Reading.{reading, longest, namedPlaces, namedNumbers}
 use Rattle.records.specs.declared.Record.{Record}
 use Rattle.report.specs.Report.{Sound}
 use Rattle.report.specs.Fault.{FaultAt}
@@ -15,16 +15,16 @@ use Rattle.lent.specs.Lent.{Lent, Emptied}
 
 -- A recheck on a job, a report, a record table and a work table answers a number and a place, and leaves two tables.
 pub data Rechecked (job report : List ℕ) (records : List Record) (work : List ℕ) : ℕ → ℕ → List Record → List ℕ → Type 0 where
-  -- 1: the job is longer than 43,008 bytes. Nothing lent has changed.
-  long : 43008 < length job → Rechecked job report records work 1 0 records work
+  -- 1: the job is longer than the longest. Nothing lent has changed.
+  long : longest job < length job → Rechecked job report records work 1 0 records work
   -- 2: either table is shorter than named. Nothing lent has changed.
-  narrow : length job ≤ 43008 → (length records < 4000) ⊎ (length work < 32768) → Rechecked job report records work 2 0 records work
+  narrow : length job ≤ longest job → (length records < namedPlaces) ⊎ (length work < namedNumbers) → Rechecked job report records work 2 0 records work
   -- 3 to 8: the reading refuses the job.
   unread : {n p : ℕ} {records′ : List Record} {work′ : List ℕ} → Lent job records work → reading job ≡ refused n p → Emptied records work records′ work′
       → Rechecked job report records work n p records′ work′
   -- 10: the report is unsound, at the first byte of the first field at fault.
-  unsound : {N p : ℕ} {items : List Item} {records′ : List Record} {work′ : List ℕ} → Lent job records work → reading job ≡ accepted N items
-      → FaultAt N (recordsOf items) 0 items 0 report p → Emptied records work records′ work′ → Rechecked job report records work 10 p records′ work′
+  unsound : {H : Head} {p : ℕ} {items : List Item} {records′ : List Record} {work′ : List ℕ} → Lent job records work → reading job ≡ accepted H items
+      → FaultAt (matterOf H items) start items 0 report p → Emptied records work records′ work′ → Rechecked job report records work 10 p records′ work′
   -- 0: the report is sound.
-  sound : {N : ℕ} {items : List Item} {records′ : List Record} {work′ : List ℕ} → Lent job records work → reading job ≡ accepted N items → Sound N (recordsOf items) 0 items report
+  sound : {H : Head} {items : List Item} {records′ : List Record} {work′ : List ℕ} → Lent job records work → reading job ≡ accepted H items → Sound (matterOf H items) start items report
       → Emptied records work records′ work′ → Rechecked job report records work 0 0 records′ work′

@@ -6,10 +6,9 @@ use native.Mathlib.Omega.{arith}
 use mathlib.Core.Path.{_≡_, refl, sym, _∙_, subst}
 use mathlib.Core.List.{List, [], _∷_, _++_, append-nil}
 use lib.ListN.{length, length-append}
-use Rattle.meaning.specs.Following.{Rec}
-use Rattle.job.specs.Items.{Item}
+use Rattle.job.specs.Items.{Matter, Moment, Question, Item}
 use Rattle.report.specs.Report.{numbers, field, Answers, led, because, apart, Totalled, total, Sound, totals, passed, answered}
-use Rattle.report.specs.Fault.{Stands, stands, FaultAt, past, behind, leaders, reason, closing, spare}
+use Rattle.report.specs.Fault.{Stands, stands, FaultAt, past, behind, wrong, closing, spare}
 use Rattle.report.proofs.Bytes.{field-one}
 
 -- A right field is a field.
@@ -18,12 +17,12 @@ pub record Fielded (f : List ℕ) : Type 0 where
   pub body : List ℕ
   pub is : f ≡ field kind body
 
-pub answers-field : {N : ℕ} {rs : List Rec} {R : ℕ} {q : Item} {f : List ℕ} → Answers N rs R q f → Fielded f
+pub answers-field : {M : Matter} {b : Moment} {q : Question} {f : List ℕ} → Answers M b q f → Fielded f
 answers-field (led {l = l} {m = m} h k) = record { kind = 131; body = numbers (l ∷ m ∷ []); is = refl }
 answers-field (because {L = L} r) = record { kind = 132; body = numbers L; is = refl }
 answers-field (apart h) = record { kind = 133; body = []; is = refl }
 
-pub totalled-field : {N : ℕ} {rs : List Rec} {f : List ℕ} → Totalled N rs f → Fielded f
+pub totalled-field : {M : Matter} {f : List ℕ} → Totalled M f → Fielded f
 totalled-field (total {c} {i} h k) = record { kind = 143; body = numbers (c ∷ i ∷ []); is = refl }
 
 -- Where two fields stand at the front of the same bytes, they are one and so is what is left.
@@ -39,9 +38,9 @@ stands-in {P} f bs h e = subst (λ (l : List ℕ). Stands P l) e (stands h bs)
 length-same : {f g : List ℕ} {m n : ℕ} → f ≡ g → m ≡ n → m + length f ≡ n + length g
 length-same e a = rw (e, a)
 
-module _ {N : ℕ} {rs : List Rec} where
+module _ {M : Matter} where
   -- Never both.
-  apart-from : {R : ℕ} {is : List Item} {at p : ℕ} {bs cs : List ℕ} → bs ≡ cs → Sound N rs R is bs → FaultAt N rs R is at cs p → ⊥
+  apart-from : {b : Moment} {is : List Item} {at p : ℕ} {bs cs : List ℕ} → bs ≡ cs → Sound M b is bs → FaultAt M b is at cs p → ⊥
   apart-from {bs = bs} e (totals t) (closing h) = h (stands-in bs [] t (append-nil bs ∙ e))
   apart-from {bs = bs} e (totals t) (spare u b cs) =
       let r : [] ≡ b ∷ cs = fielded-one [] (b ∷ cs) (totalled-field t) (totalled-field u) (append-nil bs ∙ e) .1 in
@@ -49,37 +48,32 @@ module _ {N : ℕ} {rs : List Rec} where
       omega arith
   apart-from e (passed s) (past f) = apart-from e s f
   apart-from e (answered {bs = bs} a s) (behind {bs = cs} b f) = apart-from (fielded-one bs cs (answers-field a) (answers-field b) e .1) s f
-  apart-from e (answered {f = f} {bs = bs} a s) (leaders h) = h (stands-in f bs a e)
-  apart-from e (answered {f = f} {bs = bs} a s) (reason h) = h (stands-in f bs a e)
+  apart-from e (answered {f = f} {bs = bs} a s) (wrong h) = h (stands-in f bs a e)
 
-  pub sound-no-fault : {R : ℕ} {is : List Item} {at p : ℕ} {bs : List ℕ} → Sound N rs R is bs → FaultAt N rs R is at bs p → ⊥
+  pub sound-no-fault : {b : Moment} {is : List Item} {at p : ℕ} {bs : List ℕ} → Sound M b is bs → FaultAt M b is at bs p → ⊥
   sound-no-fault = apart-from refl
 
   -- The place is one.
-  meets : {R : ℕ} {is : List Item} {at at′ p p′ : ℕ} {bs cs : List ℕ} → bs ≡ cs → at ≡ at′ → FaultAt N rs R is at bs p → FaultAt N rs R is at′ cs p′ → p ≡ p′
+  meets : {b : Moment} {is : List Item} {at at′ p p′ : ℕ} {bs cs : List ℕ} → bs ≡ cs → at ≡ at′ → FaultAt M b is at bs p → FaultAt M b is at′ cs p′ → p ≡ p′
   meets e a (past f) (past g) = meets e a f g
   meets e a (behind {bs = bs} h f) (behind {bs = cs} k g) =
       let r = fielded-one bs cs (answers-field h) (answers-field k) e in
       meets (r .1) (length-same (r .0) a) f g
-  meets e a (behind {f = x} {bs = bs} h f) (leaders n) = absurd (n (stands-in x bs h e))
-  meets e a (behind {f = x} {bs = bs} h f) (reason n) = absurd (n (stands-in x bs h e))
-  meets e a (leaders n) (behind {f = x} {bs = bs} h f) = absurd (n (stands-in x bs h (sym e)))
-  meets e a (leaders n) (leaders m) = a
-  meets e a (reason n) (behind {f = x} {bs = bs} h f) = absurd (n (stands-in x bs h (sym e)))
-  meets e a (reason n) (reason m) = a
+  meets e a (behind {f = x} {bs = bs} h f) (wrong n) = absurd (n (stands-in x bs h e))
+  meets e a (wrong n) (behind {f = x} {bs = bs} h f) = absurd (n (stands-in x bs h (sym e)))
+  meets e a (wrong n) (wrong m) = a
   meets e a (closing n) (closing m) = a
   meets e a (closing n) (spare {f = x} t b bs) = absurd (n (stands-in x (b ∷ bs) t (sym e)))
   meets e a (spare {f = x} t b bs) (closing n) = absurd (n (stands-in x (b ∷ bs) t e))
   meets e a (spare t b bs) (spare u c cs) = length-same (fielded-one (b ∷ bs) (c ∷ cs) (totalled-field t) (totalled-field u) e .0) a
 
-  pub one-fault : {R : ℕ} {is : List Item} {at p p′ : ℕ} {bs : List ℕ} → FaultAt N rs R is at bs p → FaultAt N rs R is at bs p′ → p ≡ p′
+  pub one-fault : {b : Moment} {is : List Item} {at p p′ : ℕ} {bs : List ℕ} → FaultAt M b is at bs p → FaultAt M b is at bs p′ → p ≡ p′
   one-fault = meets refl refl
 
   -- The place lies in the report, or is its length.
-  pub fault-within : {R : ℕ} {is : List Item} {at p : ℕ} {bs : List ℕ} → FaultAt N rs R is at bs p → (at ≤ p) × (p ≤ at + length bs)
+  pub fault-within : {b : Moment} {is : List Item} {at p : ℕ} {bs : List ℕ} → FaultAt M b is at bs p → (at ≤ p) × (p ≤ at + length bs)
   fault-within (past f) = fault-within f
   fault-within (behind {f = x} {bs = bs} h f) = let r = fault-within f in (omega (arith, r .0), omega (arith, r .1, length-append x bs))
-  fault-within (leaders n) = (omega arith, omega arith)
-  fault-within (reason n) = (omega arith, omega arith)
+  fault-within (wrong n) = (omega arith, omega arith)
   fault-within (closing n) = (omega arith, omega arith)
   fault-within (spare {f = x} t b bs) = (omega arith, omega (arith, length-append x (b ∷ bs)))

@@ -8,7 +8,7 @@ use mathlib.Core.List.{List, [], _∷_, List·Memᴰ, List·Memᴰ·head, List·
 use lib.ListN.{length, length-append}
 use Rattle.meaning.specs.Following.{Rec}
 use Rattle.meaning.specs.Reasons.{Above, Reason}
-use Rattle.job.specs.Items.{Item, noted, ask, explain, neededRoom}
+use Rattle.job.specs.Items.{Matter, Moment, Question, roomOf, Item, neededRoom}
 use Rattle.report.specs.Report.{numbers, Answers, led, because, apart, Totalled, total, Sound, totals, passed, answered}
 use Rattle.report.proofs.Bytes.{length-numbers, length-field}
 
@@ -20,26 +20,15 @@ rising-few m R (k ∷ L) a h = omega (arith, h k (List·Memᴰ·head refl), risi
 pub reason-few : {N : ℕ} {rs : List Rec} {R s t : ℕ} {L : List ℕ} → Reason N rs R s t L → length L ≤ min R (2 * (N - 1))
 reason-few {N} {rs} {R} {s} {t} {L} r = omega (arith, rising-few 0 R L (r .rising) (r .stand), r .short)
 
--- The room for one question.
-abbrev pub roomFor : ℕ → ℕ → Item → ℕ
-roomFor N R (noted r) = 0
-roomFor N R (ask s t) = 7
-roomFor N R (explain s t) = 3 + 2 * min R (2 * (N - 1))
-
-pub answers-fits : {N : ℕ} {rs : List Rec} {R : ℕ} {q : Item} {f : List ℕ} → Answers N rs R q f → length f ≤ roomFor N R q
+pub answers-fits : {M : Matter} {b : Moment} {q : Question} {f : List ℕ} → Answers M b q f → length f ≤ roomOf (M .head) b q
 answers-fits (led {l = l} {m = m} h k) = omega (arith, length-field 131 (numbers (l ∷ m ∷ [])), length-numbers (l ∷ m ∷ []))
-answers-fits {N} {rs} {R} (because {L = L} r) = omega (arith, length-field 132 (numbers L), length-numbers L, reason-few r)
+answers-fits {M} {b} (because {L = L} r) = omega (arith, length-field 132 (numbers L), length-numbers L, reason-few r)
 answers-fits (apart h) = omega (arith, length-field 133 [])
 
-pub totalled-length : {N : ℕ} {rs : List Rec} {bs : List ℕ} → Totalled N rs bs → length bs ≡ 7
+pub totalled-length : {M : Matter} {bs : List ℕ} → Totalled M bs → length bs ≡ 7
 totalled-length (total {c} {i} h k) = omega (arith, length-field 143 (numbers (c ∷ i ∷ [])), length-numbers (c ∷ i ∷ []))
 
-pub sound-fits : {N : ℕ} {rs : List Rec} {R : ℕ} {is : List Item} {bs : List ℕ} → Sound N rs R is bs → length bs ≤ neededRoom N R is
+pub sound-fits : {M : Matter} {b : Moment} {is : List Item} {bs : List ℕ} → Sound M b is bs → length bs ≤ neededRoom (M .head) b is
 sound-fits (totals t) = omega (arith, totalled-length t)
 sound-fits (passed s) = sound-fits s
-sound-fits (answered {is = is} {bs = bs} a s) = rw length-append (room is a (length bs) (answers-fits a) (sound-fits s))
-  where
-    room : {N : ℕ} {rs : List Rec} {R : ℕ} {q : Item} {f : List ℕ} (is : List Item) → Answers N rs R q f → (n : ℕ) → length f ≤ roomFor N R q → n ≤ neededRoom N R is → length f + n ≤ neededRoom N R (q ∷ is)
-    room is (led _ _) n h k = omega arith
-    room is (because _) n h k = omega arith
-    room is (apart _) n h k = omega arith
+sound-fits (answered {f = f} {bs = bs} a s) = rw length-append (omega (arith, answers-fits a, sound-fits s))

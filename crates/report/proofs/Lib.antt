@@ -2,3 +2,4 @@ pub mod Bytes
 pub mod Fits
 pub mod Laid
 pub mod Fault
+pub mod Known

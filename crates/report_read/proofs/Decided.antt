@@ -15,9 +15,9 @@ use Rattle.meaning.specs.Reasons.{Reason}
 use Rattle.meaning.specs.Totals.{Classes, Idle, Idles}
 use Rattle.meaning.proofs.Decide.{label-leader, upTo-test, decUpTo, decLeader, decIdle, countIt}
 use Rattle.meaning.proofs.Laws.{reason-decided}
-use Rattle.job.specs.Items.{Item, noted, ask, explain}
+use Rattle.job.specs.Items.{Matter, Moment, after, Question, ask, explain, Item, noted, posed}
 use Rattle.report.specs.Report.{two, numbers, front, field, Answers, led, because, apart, Totalled, total, Sound, totals, passed, answered}
-use Rattle.report.specs.Fault.{Stands, stands, FaultAt, past, behind, leaders, reason, closing, spare}
+use Rattle.report.specs.Fault.{Stands, stands, FaultAt, past, behind, wrong, closing, spare}
 use Rattle.report.proofs.Bytes.{two-of, length-numbers}
 use Rattle.report.proofs.Fault.{stands-in}
 use Rattle.report_read.proofs.Right.{Begins, ask-right, apart-right, reason-right, follows-right, totals-right}
@@ -94,74 +94,75 @@ list-decided k (x ∷ hi ∷ lo ∷ rest) = go (ℕ-discrete x k) (decLt lo 256)
     go (yes p) (yes l) (yes m) (yes r) = yes (r .0, (drop (hi * 256 + lo) rest, rw p (uncut k hi lo rest (r .0) l m (r .1))))
 
 -- Whether a right field stands at the front of the bytes.
-module _ (N : ℕ) (rs : List Rec) where
-  ask-decided : (R s t : ℕ) (bs : List ℕ) → Dec (Stands (Answers N rs R (ask s t)) bs)
-  ask-decided R s t bs = go (label-leader rs (λ n. leb n R) (λ n. n ≤ R) (upTo-test R) s) (label-leader rs (λ n. leb n R) (λ n. n ≤ R) (upTo-test R) t)
-    where
-      of : {l m : ℕ} → Leader (UpTo rs R) s l → Leader (UpTo rs R) t m → Dec (Begins bs (field 131 (numbers (l ∷ m ∷ [])))) → Dec (Stands (Answers N rs R (ask s t)) bs)
-      of {l} {m} h k (yes b) = yes (stands-in (field 131 (numbers (l ∷ m ∷ []))) (b .0) (led h k) (sym (b .1)))
-      of h k (no b) = no (λ s. b (ask-right h k s))
+module _ (M : Matter) where
+  abbrev N : ℕ
+  N = M .head .size
 
-      go : {l m : ℕ} → Leader (UpTo rs R) s l → Leader (UpTo rs R) t m → Dec (Stands (Answers N rs R (ask s t)) bs)
+  abbrev rs : List Rec
+  rs = M .records
+
+  ask-decided : (b : Moment) (s t : ℕ) (bs : List ℕ) → Dec (Stands (Answers M b (ask s t)) bs)
+  ask-decided b s t bs = go (label-leader rs (λ n. leb n (b .records)) (λ n. n ≤ b .records) (upTo-test (b .records)) s) (label-leader rs (λ n. leb n (b .records)) (λ n. n ≤ b .records) (upTo-test (b .records)) t)
+    where
+      of : {l m : ℕ} → Leader (UpTo rs (b .records)) s l → Leader (UpTo rs (b .records)) t m → Dec (Begins bs (field 131 (numbers (l ∷ m ∷ [])))) → Dec (Stands (Answers M b (ask s t)) bs)
+      of {l} {m} h k (yes z) = yes (stands-in (field 131 (numbers (l ∷ m ∷ []))) (z .0) (led h k) (sym (z .1)))
+      of h k (no z) = no (λ s. z (ask-right h k s))
+
+      go : {l m : ℕ} → Leader (UpTo rs (b .records)) s l → Leader (UpTo rs (b .records)) t m → Dec (Stands (Answers M b (ask s t)) bs)
       go {l} {m} h k = of h k (begins-decided (field 131 (numbers (l ∷ m ∷ []))) bs)
 
-  explain-decided : (R s t : ℕ) (bs : List ℕ) → Dec (Stands (Answers N rs R (explain s t)) bs)
-  explain-decided R s t bs = go (decUpTo rs R s t) (begins-decided (field 133 []) bs) (list-decided 132 bs)
+  explain-decided : (b : Moment) (s t : ℕ) (bs : List ℕ) → Dec (Stands (Answers M b (explain s t)) bs)
+  explain-decided b s t bs = go (decUpTo rs (b .records) s t) (begins-decided (field 133 []) bs) (list-decided 132 bs)
     where
-      of : (L : List ℕ) → Begins bs (field 132 (numbers L)) → Dec (Reason N rs R s t L) → Dec (Stands (Answers N rs R (explain s t)) bs)
-      of L b (yes r) = yes (stands-in (field 132 (numbers L)) (b .0) (because r) (sym (b .1)))
-      of L b (no r) = no (λ s. r (reason-right L (b .0) (b .1) s))
+      of : (L : List ℕ) → Begins bs (field 132 (numbers L)) → Dec (Reason N rs (b .records) s t L) → Dec (Stands (Answers M b (explain s t)) bs)
+      of L z (yes r) = yes (stands-in (field 132 (numbers L)) (z .0) (because r) (sym (z .1)))
+      of L z (no r) = no (λ s. r (reason-right L (z .0) (z .1) s))
 
-      go : Dec (Follows (UpTo rs R) s t) → Dec (Begins bs (field 133 [])) → Dec ((L : List ℕ) × Begins bs (field 132 (numbers L))) → Dec (Stands (Answers N rs R (explain s t)) bs)
-      go (no f) (yes b) l = yes (stands-in (field 133 []) (b .0) (apart f) (sym (b .1)))
-      go (no f) (no b) l = no (λ s. b (apart-right f s))
-      go (yes f) b (yes l) = of (l .0) (l .1) (reason-decided N rs R s t (l .0))
-      go (yes f) b (no l) = no (λ s. l (let r = follows-right f s in (r .0, r .2)))
+      go : Dec (Follows (UpTo rs (b .records)) s t) → Dec (Begins bs (field 133 [])) → Dec ((L : List ℕ) × Begins bs (field 132 (numbers L))) → Dec (Stands (Answers M b (explain s t)) bs)
+      go (no f) (yes z) l = yes (stands-in (field 133 []) (z .0) (apart f) (sym (z .1)))
+      go (no f) (no z) l = no (λ s. z (apart-right f s))
+      go (yes f) z (yes l) = of (l .0) (l .1) (reason-decided N rs (b .records) s t (l .0))
+      go (yes f) z (no l) = no (λ s. l (let r = follows-right f s in (r .0, r .2)))
 
-  totals-decided : (bs : List ℕ) → Dec (Stands (Totalled N rs) bs)
+  question-decided : (b : Moment) (q : Question) (bs : List ℕ) → Dec (Stands (Answers M b q) bs)
+  question-decided b (ask s t) bs = ask-decided b s t bs
+  question-decided b (explain s t) bs = explain-decided b s t bs
+
+  totals-decided : (bs : List ℕ) → Dec (Stands (Totalled M) bs)
   totals-decided bs = go (countIt (λ x. Leader (UpTo rs (length rs)) x x) (λ x. decLeader rs (λ n. leb n (length rs)) (λ n. n ≤ length rs) (upTo-test (length rs)) x x) N) (countIt (Idle N rs) (decIdle N rs) (length rs))
     where
-      of : {c i : ℕ} → Classes N (UpTo rs (length rs)) c → Idles N rs i → Dec (Begins bs (field 143 (numbers (c ∷ i ∷ [])))) → Dec (Stands (Totalled N rs) bs)
-      of {c} {i} h k (yes b) = yes (stands-in (field 143 (numbers (c ∷ i ∷ []))) (b .0) (total h k) (sym (b .1)))
-      of h k (no b) = no (λ s. b (totals-right h k s))
+      of : {c i : ℕ} → Classes N (UpTo rs (length rs)) c → Idles N rs i → Dec (Begins bs (field 143 (numbers (c ∷ i ∷ [])))) → Dec (Stands (Totalled M) bs)
+      of {c} {i} h k (yes z) = yes (stands-in (field 143 (numbers (c ∷ i ∷ []))) (z .0) (total h k) (sym (z .1)))
+      of h k (no z) = no (λ s. z (totals-right h k s))
 
-      go : (c : ℕ) × Classes N (UpTo rs (length rs)) c → (i : ℕ) × Idles N rs i → Dec (Stands (Totalled N rs) bs)
+      go : (c : ℕ) × Classes N (UpTo rs (length rs)) c → (i : ℕ) × Idles N rs i → Dec (Stands (Totalled M) bs)
       go c i = of (c .1) (i .1) (begins-decided (field 143 (numbers (c .0 ∷ i .0 ∷ []))) bs)
 
   -- The report of the items, from a place on, is sound or has a first place at fault.
-  abbrev pub Told : ℕ → List Item → ℕ → List ℕ → Type 0
-  Told R is at bs = Sound N rs R is bs ⊎ ((p : ℕ) × FaultAt N rs R is at bs p)
+  abbrev pub Told : Moment → List Item → ℕ → List ℕ → Type 0
+  Told b is at bs = Sound M b is bs ⊎ ((p : ℕ) × FaultAt M b is at bs p)
 
-  pub sound-or-fault : (R : ℕ) (is : List Item) (at : ℕ) (bs : List ℕ) → Told R is at bs
-  sound-or-fault R [] at bs = go (totals-decided bs)
+  pub sound-or-fault : (b : Moment) (is : List Item) (at : ℕ) (bs : List ℕ) → Told b is at bs
+  sound-or-fault b [] at bs = go (totals-decided bs)
     where
-      end : {f : List ℕ} → Totalled N rs f → (rest : List ℕ) → Told R [] at (f ++ rest)
+      end : {f : List ℕ} → Totalled M f → (rest : List ℕ) → Told b [] at (f ++ rest)
       end {f} t [] = inl (rw append-nil (totals t))
-      end {f} t (b ∷ rest) = inr (at + length f, spare t b rest)
+      end {f} t (x ∷ rest) = inr (at + length f, spare t x rest)
 
-      go : {bs : List ℕ} → Dec (Stands (Totalled N rs) bs) → Told R [] at bs
+      go : {bs : List ℕ} → Dec (Stands (Totalled M) bs) → Told b [] at bs
       go (yes (stands t rest)) = end t rest
       go (no n) = inr (at, closing n)
-  sound-or-fault R (noted r ∷ is) at bs = go (sound-or-fault (suc R) is at bs)
+  sound-or-fault b (noted n ∷ is) at bs = go (sound-or-fault (after (noted n) b) is at bs)
     where
-      go : Told (suc R) is at bs → Told R (noted r ∷ is) at bs
+      go : Told (after (noted n) b) is at bs → Told b (noted n ∷ is) at bs
       go (inl s) = inl (passed s)
       go (inr f) = inr (f .0, past (f .1))
-  sound-or-fault R (ask s t ∷ is) at bs = go (λ at′ bs′. sound-or-fault R is at′ bs′) (ask-decided R s t bs)
+  sound-or-fault b (posed q ∷ is) at bs = go (λ at′ bs′. sound-or-fault (after (posed q) b) is at′ bs′) (question-decided b q bs)
     where
-      on : {f rest : List ℕ} → Answers N rs R (ask s t) f → Told R is (at + length f) rest → Told R (ask s t ∷ is) at (f ++ rest)
+      on : {f rest : List ℕ} → Answers M b q f → Told (after (posed q) b) is (at + length f) rest → Told b (posed q ∷ is) at (f ++ rest)
       on a (inl s) = inl (answered a s)
       on a (inr f) = inr (f .0, behind a (f .1))
 
-      go : {bs : List ℕ} → ((at′ : ℕ) (bs′ : List ℕ) → Told R is at′ bs′) → Dec (Stands (Answers N rs R (ask s t)) bs) → Told R (ask s t ∷ is) at bs
+      go : {bs : List ℕ} → ((at′ : ℕ) (bs′ : List ℕ) → Told (after (posed q) b) is at′ bs′) → Dec (Stands (Answers M b q) bs) → Told b (posed q ∷ is) at bs
       go r (yes (stands {f = f} a rest)) = on a (r (at + length f) rest)
-      go r (no n) = inr (at, leaders n)
-  sound-or-fault R (explain s t ∷ is) at bs = go (λ at′ bs′. sound-or-fault R is at′ bs′) (explain-decided R s t bs)
-    where
-      on : {f rest : List ℕ} → Answers N rs R (explain s t) f → Told R is (at + length f) rest → Told R (explain s t ∷ is) at (f ++ rest)
-      on a (inl s) = inl (answered a s)
-      on a (inr f) = inr (f .0, behind a (f .1))
-
-      go : {bs : List ℕ} → ((at′ : ℕ) (bs′ : List ℕ) → Told R is at′ bs′) → Dec (Stands (Answers N rs R (explain s t)) bs) → Told R (explain s t ∷ is) at bs
-      go r (yes (stands {f = f} a rest)) = on a (r (at + length f) rest)
-      go r (no n) = inr (at, reason n)
+      go r (no n) = inr (at, wrong n)

@@ -7,12 +7,12 @@ use mathlib.Core.Path.{_≡_, refl, sym, _∙_, ap, subst}
 use mathlib.Core.List.{List, [], _∷_, _++_, append-nil}
 use lib.ListN.{length, drop, getD, drop-of-length-le}
 use lib.Seq.{drop-cons}
-use Rattle.meaning.specs.Following.{Rec, Follows, UpTo, Leader}
+use Rattle.meaning.specs.Following.{Follows, UpTo, Leader}
 use Rattle.meaning.specs.Reasons.{Reason}
 use Rattle.meaning.specs.Totals.{Classes, Idles}
 use Rattle.meaning.proofs.Decide.{leader-one}
 use Rattle.meaning.proofs.Laws.{classes-one, idles-one, reason-follows}
-use Rattle.job.specs.Items.{Item, ask, explain}
+use Rattle.job.specs.Items.{Matter, Moment, after, Question, ask, explain, Item, posed}
 use Rattle.report.specs.Report.{numbers, field, Answers, led, because, apart, Totalled, total, Sound, totals, answered}
 use Rattle.report.specs.Fault.{Stands, stands, FaultAt, behind, spare}
 use Rattle.report_read.specs.Read.{Holds, FrontAt, whole, none}
@@ -25,32 +25,32 @@ use Rattle.report_read.proofs.Read.{holds-rest, holds-one, field-body}
 abbrev pub Begins : List ℕ → List ℕ → Type 0
 Begins bs f = (rest : List ℕ) × (bs ≡ f ++ rest)
 
-module _ {N : ℕ} {rs : List Rec} {R s t : ℕ} where
-  pub ask-right : {bs : List ℕ} {l m : ℕ} → Leader (UpTo rs R) s l → Leader (UpTo rs R) t m → Stands (Answers N rs R (ask s t)) bs → Begins bs (field 131 (numbers (l ∷ m ∷ [])))
+module _ {M : Matter} {b : Moment} {s t : ℕ} where
+  pub ask-right : {bs : List ℕ} {l m : ℕ} → Leader (UpTo (M .records) (b .records)) s l → Leader (UpTo (M .records) (b .records)) t m → Stands (Answers M b (ask s t)) bs → Begins bs (field 131 (numbers (l ∷ m ∷ [])))
   ask-right {l = l} {m = m} h k (stands (led {l = l′} {m = m′} h′ k′) rest) =
       let p : l′ ≡ l = leader-one h′ h in
       let q : m′ ≡ m = leader-one k′ k in
       (rest, rw (p, q))
 
-  pub apart-right : {bs : List ℕ} → (Follows (UpTo rs R) s t → ⊥) → Stands (Answers N rs R (explain s t)) bs → Begins bs (field 133 [])
+  pub apart-right : {bs : List ℕ} → (Follows (UpTo (M .records) (b .records)) s t → ⊥) → Stands (Answers M b (explain s t)) bs → Begins bs (field 133 [])
   apart-right n (stands (because r) rest) = absurd (n (reason-follows r))
   apart-right n (stands (apart h) rest) = (rest, refl)
 
   -- A list that stands there is the only one that can be right.
-  pub reason-right : {bs : List ℕ} (L rest : List ℕ) → bs ≡ field 132 (numbers L) ++ rest → Stands (Answers N rs R (explain s t)) bs → Reason N rs R s t L
-  reason-right L rest e (stands (because {L = M} r) more) =
-      let b : numbers M ≡ numbers L = field-one 132 132 (numbers M) (numbers L) more rest e .1 in
-      rw (numbers-one M L b) at r
+  pub reason-right : {bs : List ℕ} (L rest : List ℕ) → bs ≡ field 132 (numbers L) ++ rest → Stands (Answers M b (explain s t)) bs → Reason (M .head .size) (M .records) (b .records) s t L
+  reason-right L rest e (stands (because {L = L′} r) more) =
+      let z : numbers L′ ≡ numbers L = field-one 132 132 (numbers L′) (numbers L) more rest e .1 in
+      rw (numbers-one L′ L z) at r
   reason-right L rest e (stands (apart h) more) =
       let k : _≡_ {A = ℕ} 133 132 = field-one 133 132 [] (numbers L) more rest e .0 in
       absurd (omega arith)
 
   -- Where the equality follows, only a list can be right.
-  pub follows-right : {bs : List ℕ} → Follows (UpTo rs R) s t → Stands (Answers N rs R (explain s t)) bs → (L : List ℕ) × Reason N rs R s t L × Begins bs (field 132 (numbers L))
+  pub follows-right : {bs : List ℕ} → Follows (UpTo (M .records) (b .records)) s t → Stands (Answers M b (explain s t)) bs → (L : List ℕ) × Reason (M .head .size) (M .records) (b .records) s t L × Begins bs (field 132 (numbers L))
   follows-right f (stands (because {L = L} r) rest) = (L, r, (rest, refl))
   follows-right f (stands (apart h) rest) = absurd (h f)
 
-pub totals-right : {N : ℕ} {rs : List Rec} {bs : List ℕ} {c i : ℕ} → Classes N (UpTo rs (length rs)) c → Idles N rs i → Stands (Totalled N rs) bs → Begins bs (field 143 (numbers (c ∷ i ∷ [])))
+pub totals-right : {M : Matter} {bs : List ℕ} {c i : ℕ} → Classes (M .head .size) (UpTo (M .records) (length (M .records))) c → Idles (M .head .size) (M .records) i → Stands (Totalled M) bs → Begins bs (field 143 (numbers (c ∷ i ∷ [])))
 totals-right {c = c} {i = i} h k (stands (total {c = c′} {i = i′} h′ k′) rest) =
     let p : c′ ≡ c = classes-one h′ h in
     let q : i′ ≡ i = idles-one k′ k in
@@ -77,17 +77,17 @@ module _ (report : List ℕ) (at : ℕ) where
       let b : body ≡ numbers L = holds-one report (at + 3) body (numbers L) (e ∙ sym (length-numbers L)) (field-body report at 132 body h) k in
       subst (λ (c : List ℕ). Holds report at (field 132 c)) b h
 
-  module _ {N : ℕ} {rs : List Rec} {R : ℕ} where
+  module _ {M : Matter} {b : Moment} where
     -- A right field is passed, and the report goes on behind it.
-    pub sound-on : {q : Item} {f : List ℕ} {is : List Item} → Answers N rs R q f → Holds report at f → Sound N rs R is (drop (at + length f) report) → Sound N rs R (q ∷ is) (drop at report)
+    pub sound-on : {q : Question} {f : List ℕ} {is : List Item} → Answers M b q f → Holds report at f → Sound M (after (posed q) b) is (drop (at + length f) report) → Sound M b (posed q ∷ is) (drop at report)
     sound-on a h s = rw h (answered a s)
 
-    pub fault-on : {q : Item} {f : List ℕ} {is : List Item} {p : ℕ} → Answers N rs R q f → Holds report at f → FaultAt N rs R is (at + length f) (drop (at + length f) report) p → FaultAt N rs R (q ∷ is) at (drop at report) p
+    pub fault-on : {q : Question} {f : List ℕ} {is : List Item} {p : ℕ} → Answers M b q f → Holds report at f → FaultAt M (after (posed q) b) is (at + length f) (drop (at + length f) report) p → FaultAt M b (posed q ∷ is) at (drop at report) p
     fault-on a h f = rw h (behind a f)
 
     -- Behind the totals nothing is left, or the first of what is left is at fault.
-    pub sound-end : {f : List ℕ} → Totalled N rs f → Holds report at f → length report ≤ at + length f → Sound N rs R [] (drop at report)
-    sound-end {f} t h l = totals (subst (λ (bs : List ℕ). Totalled N rs bs) (sym (h ∙ ap (λ (r : List ℕ). f ++ r) (drop-of-length-le report l) ∙ append-nil f)) t)
+    pub sound-end : {f : List ℕ} → Totalled M f → Holds report at f → length report ≤ at + length f → Sound M b [] (drop at report)
+    sound-end {f} t h l = totals (subst (λ (bs : List ℕ). Totalled M bs) (sym (h ∙ ap (λ (r : List ℕ). f ++ r) (drop-of-length-le report l) ∙ append-nil f)) t)
 
-    pub fault-end : {f : List ℕ} → Totalled N rs f → Holds report at f → at + length f < length report → FaultAt N rs R [] at (drop at report) (at + length f)
+    pub fault-end : {f : List ℕ} → Totalled M f → Holds report at f → at + length f < length report → FaultAt M b [] at (drop at report) (at + length f)
     fault-end {f} t h l = rw (h ∙ ap (λ (r : List ℕ). f ++ r) (drop-cons report (at + length f) 0 l)) (spare t (getD report (at + length f) 0) (drop (suc (at + length f)) report))

@@ -86,16 +86,24 @@ pub fn is_totals(report: &[u8], at: usize, classes: usize, idle: usize) -> bool
     is_pair(report, at, TOTALS, classes as u16, idle as u16)
 }
 
+// Whether a field without a body stands at a place.
+pub fn is_bare(report: &[u8], at: usize, kind: u8) -> bool
+    requires { ⌜ at ≤ length (now report) ⌝ }
+    ensures { λ r. ⌜ (r ≡ true) ↔ Holds (now (report .entry)) at (field kind []) ⌝ }
+{
+    if report.len() - at < 3 {
+        return false;
+    }
+    if report[at] != kind {
+        return false;
+    }
+    number_in(report, at + 1) == 0
+}
+
 // Whether a place says that the equality does not follow.
 pub fn is_apart(report: &[u8], at: usize) -> bool
     requires { ⌜ at ≤ length (now report) ⌝ }
     ensures { λ r. ⌜ (r ≡ true) ↔ Holds (now (report .entry)) at (field 133 []) ⌝ }
 {
-    if report.len() - at < 3 {
-        return false;
-    }
-    if report[at] != APART {
-        return false;
-    }
-    number_in(report, at + 1) == 0
+    is_bare(report, at, APART)
 }

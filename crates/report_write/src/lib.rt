@@ -46,12 +46,20 @@ pub fn write_led(room: &mut [u8], at: usize, l: Tag, m: Tag)
     put_pair(room, at, LED, l.0, m.0);
 }
 
+// A field without a body.
+pub fn write_bare(room: &mut [u8], at: usize, kind: u8)
+    requires { ⌜ at + 3 ≤ length (now room) ⌝ }
+    ensures { λ _. ⌜ now (room .exit) ≡ laid at (field kind []) (now (room .entry)) ⌝ }
+{
+    put_front(room, at, kind, 0);
+}
+
 // The answer to an explain where the equality does not follow.
 pub fn write_apart(room: &mut [u8], at: usize)
     requires { ⌜ at + 3 ≤ length (now room) ⌝ }
     ensures { λ _. ⌜ now (room .exit) ≡ laid at (field 133 []) (now (room .entry)) ⌝ }
 {
-    put_front(room, at, APART, 0);
+    write_bare(room, at, APART);
 }
 
 // The totals.

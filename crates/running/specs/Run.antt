@@ -6,25 +6,25 @@ use mathlib.Core.Path.{_≡_}
 use mathlib.Core.Logic.{_⊎_}
 use mathlib.Core.List.{List, _++_}
 use lib.ListN.{length, drop}
-use Rattle.job.specs.Items.{Item, refused, accepted, recordsOf, neededRoom}
-use Rattle.job.specs.Reading.{reading}
+use Rattle.job.specs.Items.{Head, Item, start, matterOf, refused, accepted, neededRoom}
+use Rattle.job.specs.Reading.{reading, longest, namedPlaces, namedNumbers}
 use Rattle.records.specs.declared.Record.{Record}
 use Rattle.report.specs.Report.{Sound}
 use Rattle.lent.specs.Lent.{Lent, Emptied}
 
 -- A run on a job, a room, a record table and a work table answers a number, a place and a length, and leaves a room and two tables.
 pub data Ran (job room : List ℕ) (records : List Record) (work : List ℕ) : ℕ → ℕ → ℕ → List ℕ → List Record → List ℕ → Type 0 where
-  -- 1: the job is longer than 43,008 bytes. Nothing lent has changed.
-  long : 43008 < length job → Ran job room records work 1 0 0 room records work
+  -- 1: the job is longer than the longest. Nothing lent has changed.
+  long : longest job < length job → Ran job room records work 1 0 0 room records work
   -- 2: either table is shorter than named. Nothing lent has changed.
-  narrow : length job ≤ 43008 → (length records < 4000) ⊎ (length work < 32768) → Ran job room records work 2 0 0 room records work
+  narrow : length job ≤ longest job → (length records < namedPlaces) ⊎ (length work < namedNumbers) → Ran job room records work 2 0 0 room records work
   -- 3 to 8: the reading refuses the job. The room is unchanged.
   unread : {n p : ℕ} {records′ : List Record} {work′ : List ℕ} → Lent job records work → reading job ≡ refused n p → Emptied records work records′ work′
       → Ran job room records work n p 0 room records′ work′
   -- 9: the room is smaller than needed. It is unchanged.
-  cramped : {N : ℕ} {items : List Item} {records′ : List Record} {work′ : List ℕ} → Lent job records work → reading job ≡ accepted N items → length room < neededRoom N 0 items
+  cramped : {H : Head} {items : List Item} {records′ : List Record} {work′ : List ℕ} → Lent job records work → reading job ≡ accepted H items → length room < neededRoom H start items
       → Emptied records work records′ work′ → Ran job room records work 9 0 0 room records′ work′
   -- 0: a sound report stands at the front of the room, and every byte behind it is unchanged.
-  done : {N : ℕ} {items : List Item} {bs : List ℕ} {records′ : List Record} {work′ : List ℕ} → Lent job records work → reading job ≡ accepted N items
-      → neededRoom N 0 items ≤ length room → Sound N (recordsOf items) 0 items bs → Emptied records work records′ work′
+  done : {H : Head} {items : List Item} {bs : List ℕ} {records′ : List Record} {work′ : List ℕ} → Lent job records work → reading job ≡ accepted H items
+      → neededRoom H start items ≤ length room → Sound (matterOf H items) start items bs → Emptied records work records′ work′
       → Ran job room records work 0 0 (length bs) (bs ++ drop (length bs) room) records′ work′

@@ -6,7 +6,7 @@ use mathlib.Core.Path.{_≡_, refl, sym, subst, _∙_}
 use mathlib.Core.Bool.{true}
 use mathlib.Core.List.{List}
 use lib.ListN.{length}
-use Rattle.job.specs.Items.{Item, accepted, recordsOf, neededRoom}
+use Rattle.job.specs.Items.{Head, Item, start, accepted, recordsOf, neededRoom}
 use Rattle.job.specs.Standing.{Taken}
 use Rattle.job.specs.Reading.{reading}
 use Rattle.sight.specs.declared.Sight.{Sight}
@@ -15,10 +15,12 @@ use Rattle.sight.specs.Look.{Viewed, Enough, Looked, counting}
 
 -- What is known where the call may go on.
 pub record Ready (job : List ℕ) (s : Sight) : Type 0 where
+  pub head : Head
   pub items : List Item
-  pub reads : reading job ≡ accepted (s .size) items
+  pub reads : reading job ≡ accepted head items
+  pub size : head .size ≡ s .size
   pub records : s .records ≡ length (recordsOf items)
-  pub needed : s .needed ≡ neededRoom (s .size) 0 items
+  pub needed : s .needed ≡ neededRoom head start items
 
 -- Lengths that are not at fault, and what the reading tells.
 pub record Read (job : List ℕ) (c w : ℕ) (s : Sight) : Type 0 where
@@ -28,7 +30,7 @@ pub record Read (job : List ℕ) (c w : ℕ) (s : Sight) : Type 0 where
 module _ {job : List ℕ} where
   viewed-ready : (s : Sight) → Viewed job s → s .ready ≡ true → Ready job s
   viewed-ready s (l.unread e) q = let z : _≡_ {A = ℕ} 0 1 = cc in absurd (omega arith)
-  viewed-ready s (l.ready {items = items} e) q = record { items = items; reads = e; records = refl; needed = refl }
+  viewed-ready s (l.ready {H = H} {items = items} e) q = record { head = H; items = items; reads = e; size = refl; records = refl; needed = refl }
 
   pub looked-ready : {p n : ℕ} (s : Sight) → Looked job p n s → s .ready ≡ true → Ready job s
   looked-ready s (l.long h) q = let z : _≡_ {A = ℕ} 0 1 = cc in absurd (omega arith)
@@ -49,9 +51,9 @@ module _ {job : List ℕ} where
   ready-lent s (l.narrow h o) q = let z : _≡_ {A = ℕ} 0 1 = cc in absurd (omega arith)
   ready-lent s (l.viewed h v) q = viewed-lent s v
 
-pub same-items : (job : List ℕ) (N M : ℕ) (items items′ : List Item) → reading job ≡ accepted N items → reading job ≡ accepted M items′ → items ≡ items′
-same-items job N M items items′ e f = let g : accepted N items ≡ accepted M items′ = sym e ∙ f in cc
+pub same-items : (job : List ℕ) (H M : Head) (items items′ : List Item) → reading job ≡ accepted H items → reading job ≡ accepted M items′ → items ≡ items′
+same-items job H M items items′ e f = let g : accepted H items ≡ accepted M items′ = sym e ∙ f in cc
 
 -- What an accepted reading tells is what is seen.
-pub taken-viewed : {job : List ℕ} {N R Q room : ℕ} → Taken job N R Q room → Viewed job (counting N R room)
-taken-viewed {job} {N} {R} {Q} {room} t = subst (λ (r : ℕ). Viewed job (counting N r room)) (sym (t .records)) (subst (λ (m : ℕ). Viewed job (counting N (length (recordsOf (t .items))) m)) (sym (t .needed)) (l.ready (t .reads)))
+pub taken-viewed : {job : List ℕ} {H : Head} {R Q room : ℕ} → Taken job H R Q room → Viewed job (counting (H .size) R room)
+taken-viewed {job} {H} {R} {Q} {room} t = subst (λ (r : ℕ). Viewed job (counting (H .size) r room)) (sym (t .records)) (subst (λ (m : ℕ). Viewed job (counting (H .size) (length (recordsOf (t .items))) m)) (sym (t .needed)) (l.ready (t .reads)))

@@ -6,8 +6,8 @@ use mathlib.Core.Logic.{_⊎_}
 use mathlib.Core.Bool.{true, false}
 use mathlib.Core.List.{List}
 use lib.ListN.{length}
-use Rattle.job.specs.Items.{Item, refused, accepted, recordsOf, neededRoom}
-use Rattle.job.specs.Reading.{reading}
+use Rattle.job.specs.Items.{Head, Item, start, refused, accepted, recordsOf, neededRoom}
+use Rattle.job.specs.Reading.{reading, longest, namedPlaces, namedNumbers}
 use Rattle.sight.specs.declared.Sight.{Sight}
 
 -- A refusal for lengths alone, which touches no table.
@@ -25,16 +25,16 @@ counting N k m = record { lent = true; ready = true; number = 0; place = 0; size
 -- What reading the job tells: the numbers 3 to 8 with their place, or N, the number of records and the needed room.
 pub data Viewed (job : List ℕ) : Sight → Type 0 where
   unread : {n p : ℕ} → reading job ≡ refused n p → Viewed job (faulty n p)
-  ready : {N : ℕ} {items : List Item} → reading job ≡ accepted N items → Viewed job (counting N (length (recordsOf items)) (neededRoom N 0 items))
+  ready : {H : Head} {items : List Item} → reading job ≡ accepted H items → Viewed job (counting (H .size) (length (recordsOf items)) (neededRoom H start items))
 
 -- The job and tables of c places and w numbers are not at fault by their lengths.
 pub record Enough (job : List ℕ) (c w : ℕ) : Type 0 where
-  pub short : length job ≤ 43008
-  pub places : 4000 ≤ c
-  pub numbers : 32768 ≤ w
+  pub short : length job ≤ longest job
+  pub places : namedPlaces ≤ c
+  pub numbers : namedNumbers ≤ w
 
--- The same with 1, a job longer than 43,008 bytes, and 2, either table shorter than named, before it.
+-- The same with 1, a job longer than the longest, and 2, either table shorter than named, before it.
 pub data Looked (job : List ℕ) (places numbers : ℕ) : Sight → Type 0 where
-  long : 43008 < length job → Looked job places numbers (declined 1)
-  narrow : length job ≤ 43008 → (places < 4000) ⊎ (numbers < 32768) → Looked job places numbers (declined 2)
+  long : longest job < length job → Looked job places numbers (declined 1)
+  narrow : length job ≤ longest job → (places < namedPlaces) ⊎ (numbers < namedNumbers) → Looked job places numbers (declined 2)
   viewed : {s : Sight} → Enough job places numbers → Viewed job s → Looked job places numbers s

@@ -35,7 +35,7 @@ module _ (job room : List ℕ) (number place size : ℕ) where
         let a = fair e in
         let short : length (take size room) ≤ 60000 = rw (length-take size room) (omega arith) in
         let is : textOf (reading job) (take size room) ≡ linesOf (a .items) (take size room) = rw (a .reads) in
-        let most = report-size job (a .size) (a .items) (a .reads) (take size room) (bytes-take size room b) short in
+        let most = report-size job (a .head) (a .items) (a .reads) (take size room) (bytes-take size room b) short in
         tells-whole (tells-as (text-report e) t) (omega (arith, most, ap length is, ap length (text-report e)));
   }
 

@@ -9,10 +9,9 @@ use mathlib.Core.List.{List}
 use lib.ListN.{length}
 use Rattle.meaning.specs.Following.{Rec, UpTo}
 use Rattle.meaning.specs.Totals.{Classes, Idles}
-use Rattle.job.specs.Items.{Item, accepted, itemsOf, recordsOf}
-use Rattle.job.specs.Reading.{reading, itemsIn}
-use Rattle.job.specs.Standing.{Job}
-use Rattle.job.proofs.Standing.{accepted-stands}
+use Rattle.job.specs.Items.{Item, start, matterOf, Reading, accepted, headOf, itemsOf, recordsOf}
+use Rattle.job.specs.Reading.{reading, itemsIn, namedNumbers}
+use Rattle.job.proofs.Standing.{job-stands}
 use Rattle.table.specs.Map.{recordsIn}
 use Rattle.table.proofs.Frame.{within-wider, within-trans}
 use Rattle.table.proofs.Kept.{records-same}
@@ -42,7 +41,7 @@ module _ (job report w : List ℕ) (s : Sight) (h : Begun job w s) where
   weigh-refused w′ q x = looked-refused s (h .looked) q x
 
   -- The work table is as long as named where it is cleared.
-  pub weigh-long : s .lent ≡ true → 32768 ≤ length w
+  pub weigh-long : s .lent ≡ true → namedNumbers ≤ length w
   weigh-long q = looked-lent s (h .looked) q .enough .numbers
 
   module _ (q : s .ready ≡ true) where
@@ -52,7 +51,7 @@ module _ (job report w : List ℕ) (s : Sight) (h : Begun job w s) where
     viewed : Ready job s
     viewed = looked-ready s (h .looked) q
 
-    reads : reading job ≡ accepted (s .size) (viewed .items)
+    reads : reading job ≡ accepted (viewed .head) (viewed .items)
     reads = viewed .reads
 
     alike : itemsIn job ≡ viewed .items
@@ -60,11 +59,12 @@ module _ (job report w : List ℕ) (s : Sight) (h : Begun job w s) where
 
     module _ (w′ : List ℕ) (joins idle : ℕ) (d : Closing (s .size) (s .records) w w′ joins idle) where
       held : recordsIn (s .records) w′ ≡ recordsOf (itemsIn job)
-      held = records-same (d .kept) (s .records) ∙ h .columns (s .size) (viewed .items) reads q ∙ ap recordsOf (sym alike)
+      held = records-same (d .kept) (s .records) ∙ h .columns (viewed .head) (viewed .items) reads q ∙ ap recordsOf (sym alike)
 
       pub weigh-asks : Judgeable job w′ (s .size) (s .records) joins idle
       weigh-asks = record {
-        accepted = subst (Job job (s .size)) (sym alike) (accepted-stands job (s .size) (viewed .items) reads);
+        accepted = job-stands job (viewed .head) (viewed .items) reads;
+        size = ap (λ (x : Reading). headOf x .size) reads ∙ viewed .size;
         count = viewed .records ∙ ap (λ (x : List Item). length (recordsOf x)) (sym alike);
         held = held;
         past = d .past;
@@ -72,12 +72,12 @@ module _ (job report w : List ℕ) (s : Sight) (h : Begun job w s) where
         idles = subst (λ (rs : List Rec). Idles (s .size) rs idle) held (d .idles);
       }
 
-      pub weigh-done : (w″ w‴ : List ℕ) (j : Judgement) → Judged job report w′ w″ (s .size) j → Returned true w″ w‴ → Weighed job report w s (findingOf j .number) (findingOf j .place) w‴
-      weigh-done w″ w‴ j b x = go j (subst (λ (y : List Item). Verdict (s .size) (recordsOf y) 0 y 0 report j) alike (b .verdict))
+      pub weigh-done : (w″ w‴ : List ℕ) (j : Judgement) → Judged job report w′ w″ j → Returned true w″ w‴ → Weighed job report w s (findingOf j .number) (findingOf j .place) w‴
+      weigh-done w″ w‴ j b x = go j (subst (λ (x : Reading). Verdict (matterOf (headOf x) (itemsOf x)) start (itemsOf x) 0 report j) reads (b .verdict))
         where
           emptied : Cleared w w‴
           emptied = cleared-after (within-trans (within-wider 0 32768 (omega arith) (omega arith) (d .kept)) (within-wider 0 32768 (omega arith) (omega arith) (b .kept))) (returned-true x refl)
 
-          go : (i : Judgement) → Verdict (s .size) (recordsOf (viewed .items)) 0 (viewed .items) 0 report i → Weighed job report w s (findingOf i .number) (findingOf i .place) w‴
+          go : (i : Judgement) → Verdict (matterOf (viewed .head) (viewed .items)) start (viewed .items) 0 report i → Weighed job report w s (findingOf i .number) (findingOf i .place) w‴
           go i (g.sound o) = c.sound lent reads o emptied
           go i (g.fault o) = c.unsound lent reads o emptied

@@ -5,7 +5,7 @@ use Prim.Native.Nat.{ℕ}
 use mathlib.Core.Path.{_≡_}
 use mathlib.Core.Bool.{true, false}
 use mathlib.Core.List.{List}
-use Rattle.job.specs.Items.{Item, refused, accepted, recordsOf}
+use Rattle.job.specs.Items.{Head, Item, start, matterOf, refused, accepted}
 use Rattle.job.specs.Reading.{reading}
 use Rattle.report.specs.Report.{Sound}
 use Rattle.report.specs.Fault.{FaultAt}
@@ -20,8 +20,8 @@ use Rattle.lent.specs.Clear.{Cleared}
 pub data Weighed (job report work : List ℕ) (s : Sight) : ℕ → ℕ → List ℕ → Type 0 where
   declined : s .lent ≡ false → Weighed job report work s (s .number) (s .place) work
   unread : {n p : ℕ} {work′ : List ℕ} → s .lent ≡ true → reading job ≡ refused n p → Cleared work work′ → Weighed job report work s n p work′
-  unsound : {N p : ℕ} {items : List Item} {work′ : List ℕ} → s .lent ≡ true → reading job ≡ accepted N items → FaultAt N (recordsOf items) 0 items 0 report p → Cleared work work′ → Weighed job report work s 10 p work′
-  sound : {N : ℕ} {items : List Item} {work′ : List ℕ} → s .lent ≡ true → reading job ≡ accepted N items → Sound N (recordsOf items) 0 items report → Cleared work work′ → Weighed job report work s 0 0 work′
+  unsound : {H : Head} {p : ℕ} {items : List Item} {work′ : List ℕ} → s .lent ≡ true → reading job ≡ accepted H items → FaultAt (matterOf H items) start items 0 report p → Cleared work work′ → Weighed job report work s 10 p work′
+  sound : {H : Head} {items : List Item} {work′ : List ℕ} → s .lent ≡ true → reading job ≡ accepted H items → Sound (matterOf H items) start items report → Cleared work work′ → Weighed job report work s 0 0 work′
 
 -- What a judgement of the report comes to: 0 where it is sound, and 10 at the first place at fault.
 abbrev pub findingOf : Judgement → Finding

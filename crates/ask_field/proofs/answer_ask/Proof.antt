@@ -8,6 +8,7 @@ use Rattle.table.proofs.Frame.{within-refl}
 use Rattle.meeting.proofs.Kept.{past-forest}
 use Rattle.meeting.proofs.Moments.{age-low}
 use Rattle.report.specs.Report.{numbers, field, led}
+use Rattle.report.proofs.Known.{ask-known}
 use Rattle.report.proofs.Bytes.{length-field, length-numbers}
 use Rattle.ask_field.proofs.Right.{leads}
 use Rattle.ask_field.proofs.answer_ask.Statement.{statement}
@@ -28,7 +29,7 @@ leader-requires-2 : tie.Need-leader-requires-2
 leader-requires-2 c κs =
     let s = c .before .before .before .before in
     let f = s .pre in
-    (past-forest (f .past), (omega (arith, age-low (f .past) _ _ (c .before .age-after .ensures)), omega (arith, f .tags .1, f .past .loaded .few)))
+    (past-forest (f .past), (omega (arith, age-low (f .past) _ _ (c .before .age-after .ensures)), omega (arith, f .tags .1 .0, f .past .loaded .few)))
 
 write-led-requires : tie.Need-write-led-requires
 write-led-requires c κs = c .before .before .before .before .before .before .pre .fits
@@ -50,9 +51,9 @@ returns c =
     let body = numbers (l .result .0 ∷ m .result .0 ∷ []) in
     record {
       field = field 131 body;
-      right = led {s = s .args .s .0} {t = s .args .t .0} {l = l .result .0} {m = m .result .0}
+      right = λ M b K. ask-known K (field 131 body) (led {s = s .args .s .0} {t = s .args .t .0} {l = l .result .0} {m = m .result .0}
           (leads (f .past) (s .args .before) (s .args .s .0) _ _ (f .passed) (a .age-after .ensures) (l .ensures))
-          (leads (f .past) (s .args .before) (s .args .t .0) _ _ (f .passed) (a .age-after .ensures) (m .ensures));
+          (leads (f .past) (s .args .before) (s .args .t .0) _ _ (f .passed) (a .age-after .ensures) (m .ensures)));
       front = c .before .before .write-led .ensures;
       reached = omega (arith, length-field 131 body, length-numbers (l .result .0 ∷ m .result .0 ∷ []));
       kept = within-refl w;

@@ -12,6 +12,7 @@ use Rattle.meaning.specs.Reasons.{Reason}
 use Rattle.table.specs.Map.{listOf, listIn}
 use Rattle.table.proofs.Frame.{length-gather}
 use Rattle.report.specs.Report.{numbers, field, because, apart}
+use Rattle.report.proofs.Known.{explain-known}
 use Rattle.report.proofs.Bytes.{length-field, length-numbers}
 use Rattle.report.proofs.Fits.{reason-few}
 use Rattle.explain_field.proofs.answer_explain.Statement.{statement}
@@ -24,7 +25,7 @@ list-few : {N : ℕ} {rs : List Rec} {R s t : ℕ} (n : ℕ) (w : List ℕ) → 
 list-few n w r = omega (arith, reason-few r, length-gather (listOf w) n)
 
 explain-requires : tie.Need-explain-requires
-explain-requires c κs = let f = c .before .before .before .pre in record { past = f .past; stands = omega (arith, f .passed); s-tag = f .tags .0; t-tag = f .tags .1 }
+explain-requires c κs = let f = c .before .before .before .pre in record { past = f .past; stands = omega (arith, f .passed); s-tag = f .tags .0; t-tag = f .tags .1 .0 }
 
 enum-known-count : tie.Need-enum-known-count
 enum-known-count c = search needs
@@ -78,7 +79,7 @@ returns c =
     let l = listIn n (e .last .0) in
     record {
       field = field 132 (numbers l);
-      right = because (rw (c .before .before .before .before .before .before .count .given .1) at (e .ensures .says));
+      right = λ M b K. explain-known K (field 132 (numbers l)) (because (rw (c .before .before .before .before .before .before .count .given .1) at (e .ensures .says)));
       front = c .before .before .write-reason .ensures;
       reached = omega (arith, length-field 132 (numbers l), length-numbers l, length-gather (listOf (e .last .0)) n);
       kept = e .ensures .kept;
@@ -95,7 +96,7 @@ returns-2 c =
     let e = c .before .before .before .before .before .before .before .before .explain in
     record {
       field = field 133 [];
-      right = apart (rw (c .before .before .before .before .enum-told .given .1) at (e .ensures .says));
+      right = λ M b K. explain-known K (field 133 []) (apart (rw (c .before .before .before .before .enum-told .given .1) at (e .ensures .says)));
       front = c .before .before .write-apart .ensures;
       reached = omega (arith, length-field 133 []);
       kept = e .ensures .kept;

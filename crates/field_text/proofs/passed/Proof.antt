@@ -1,9 +1,9 @@
 -- `field_text::passed` meets its contract, by the cases of the field: only a question has a field in the report.
 -- Assumes nothing.
 use borrow.Author.Needs.{needs}
-use native.Mathlib.Omega.{arith}
 use Rattle.field_text.proofs.passed.Statement.{statement}
 use Rattle.field_text.proofs.passed.Tie as tie
+use native.Mathlib.Omega.{arith}
 
 enum-told : tie.Need-enum-told
 enum-told c = search needs
@@ -17,20 +17,11 @@ enum-told-3 c = search needs
 enum-told-4 : tie.Need-enum-told-4
 enum-told-4 c = search needs
 
-enum-told-5 : tie.Need-enum-told-5
-enum-told-5 c = search needs
-
 width-requires : tie.Need-width-requires
 width-requires c κs = search needs
 
-enum-told-6 : tie.Need-enum-told-6
-enum-told-6 c = search needs
-
-width-requires-2 : tie.Need-width-requires-2
-width-requires-2 c κs = search needs
-
-enum-told-7 : tie.Need-enum-told-7
-enum-told-7 c = search needs
+enum-told-5 : tie.Need-enum-told-5
+enum-told-5 c = search needs
 
 returns : tie.Need-returns
 returns c = rw (c .enum-told .given .1) (omega arith)
@@ -42,16 +33,10 @@ returns-3 : tie.Need-returns-3
 returns-3 c = rw (c .enum-told3 .given .1) (omega arith)
 
 returns-4 : tie.Need-returns-4
-returns-4 c = rw (c .enum-told4 .given .1) (omega arith)
+returns-4 c = rw (c .before .enum-told4 .given .1) (omega arith)
 
 returns-5 : tie.Need-returns-5
-returns-5 c = rw (c .before .enum-told5 .given .1) (omega arith)
-
-returns-6 : tie.Need-returns-6
-returns-6 c = rw (c .before .enum-told6 .given .1) (omega arith)
-
-returns-7 : tie.Need-returns-7
-returns-7 c = rw (c .enum-told7 .given .1) (omega arith)
+returns-5 c = rw (c .enum-told5 .given .1) (omega arith)
 
 pub passed-spec : {M : Type 1} → statement M
 passed-spec =
@@ -61,15 +46,10 @@ passed-spec =
     enum-told-2
     enum-told-3
     enum-told-4
-    enum-told-5
     width-requires
-    enum-told-6
-    width-requires-2
-    enum-told-7
+    enum-told-5
     returns
     returns-2
     returns-3
     returns-4
-    returns-5
-    returns-6
-    returns-7)
+    returns-5)

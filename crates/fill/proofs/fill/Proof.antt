@@ -328,8 +328,8 @@ module _ {M : Type 1} (𝓤 : URA M) (H : Heap 𝓤) (A : Atoms 𝓤) (W : Given
         by ! (exits (i .1 .1 .0) (i .1 .1 .1 .0) (subst (λ (k : ℕ). Going (xj .now) n ys k (i .1 .1 .0) (i .1 .1 .1 .0)) (le-antisymm (i .1 .0) (nltb→le (i .0) n over)) (i .1 .1 .1 .1 .1))))
 
     -- what stands before the loop is the invariant at 0
-    loop-on : Sq W (Ctx ys 5 0) (runs C Λ En m.t-3 (atRet En Ends))
-    loop-on = first ! $ blocks ! $ loops ! 𝓣 Nearer Nearer-wf At turns (0, (zero-le, (ys, (5, (lit< tt, going-begin (xj .now) n ys)))))
+    loop-on : Sq W (Ctx ys 0 0) (runs C Λ En m.t-3 (atRet En Ends))
+    loop-on = first ! $ blocks ! $ loops ! 𝓣 Nearer Nearer-wf At turns (0, (zero-le, (ys, (0, (lit< tt, going-begin (xj .now) n ys)))))
 
   walk : (𝓣 : Tables 𝓤 H) → Triple 𝓤 (𝓣 .C #next-record·next-record) (Next 𝓤 H A mem run) → Triple 𝓤 (𝓣 .C #records·store) (Store 𝓤 H A mem run)
       → ent 𝓤 (onEntry 𝓤 H A f.signature (κj, (κc, tt)) (qj, (qc, tt)) x at) (WpFn 𝓤 H (𝓣 .C) (𝓣 .Λ) code.function (vJ ∷ vC ys ∷ vint w64 n ∷ []) Ends)

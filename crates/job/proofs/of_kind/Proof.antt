@@ -5,7 +5,7 @@ use Rattle.job.proofs.of_kind.Statement.{statement}
 use Rattle.job.proofs.of_kind.Tie as tie
 use mathlib.Core.Bool.{true}
 use borrow.Author.Tests.{eq-eqb, ne-eqb, le-leb, lt-leb}
-use Rattle.job.specs.Reading.{known, bodyLength, numberAt}
+use Rattle.job.specs.Reading.{known, bodyLength, numberAt, behindAt}
 use Rattle.job.specs.Answer.{kindOf}
 use mathlib.Core.Path.{_≡_, sym, _∙_}
 use Prim.Native.Nat.{_+_, _≤_, _<_}
@@ -47,7 +47,7 @@ returns c =
     let is : known (kindOf (a .kind)) ≡ true = sym (b .is-known .ensures) ∙ c .before .before .before .before .before .before .if1 .taken in
     let due : c .before .before .before .before .before .body-length .result ≡ bodyLength (kindOf (a .kind)) = c .before .before .before .before .before .body-length .ensures in
     let fits : numberAt (now (a .job)) (a .at + 1) ≡ bodyLength (kindOf (a .kind)) = sym (c .before .before .before .before .number .ensures) ∙ c .before .before .before .if2 .taken ∙ due in
-    let whole : a .at + 3 + bodyLength (kindOf (a .kind)) ≤ length (now (a .job)) = omega (arith, due) in
+    let whole : behindAt (now (a .job)) (a .at) ≤ length (now (a .job)) = omega (arith, c .before .before .before .before .number .ensures) in
     rw (is, eq-eqb _ _ fits, le-leb _ _ whole) (c .body .ensures)
 
 returns-2 : tie.Need-returns-2
@@ -57,7 +57,7 @@ returns-2 c =
     let is : known (kindOf (a .kind)) ≡ true = sym (b .is-known .ensures) ∙ c .before .before .before .before .before .if1 .taken in
     let due : c .before .before .before .before .body-length .result ≡ bodyLength (kindOf (a .kind)) = c .before .before .before .before .body-length .ensures in
     let fits : numberAt (now (a .job)) (a .at + 1) ≡ bodyLength (kindOf (a .kind)) = sym (c .before .before .before .number .ensures) ∙ c .before .before .if2 .taken ∙ due in
-    let short : length (now (a .job)) < a .at + 3 + bodyLength (kindOf (a .kind)) = omega (arith, due) in
+    let short : length (now (a .job)) < behindAt (now (a .job)) (a .at) = omega (arith, c .before .before .before .number .ensures) in
     rw (is, eq-eqb _ _ fits, lt-leb _ _ short)
 
 returns-3 : tie.Need-returns-3

@@ -10,20 +10,26 @@ enum-told c = search needs
 enum-told-2 : tie.Need-enum-told-2
 enum-told-2 c = search needs
 
+enum-known-field : tie.Need-enum-known-field
+enum-known-field c = search needs
+
+wide-requires : tie.Need-wide-requires
+wide-requires c κs = search needs
+
+stands-for-requires : tie.Need-stands-for-requires
+stands-for-requires c κs = search needs
+
+wide-requires-2 : tie.Need-wide-requires-2
+wide-requires-2 c κs = search needs
+
+add-result : tie.Need-add-result
+add-result c = search needs
+
 enum-told-3 : tie.Need-enum-told-3
 enum-told-3 c = search needs
 
 enum-told-4 : tie.Need-enum-told-4
 enum-told-4 c = search needs
-
-enum-told-5 : tie.Need-enum-told-5
-enum-told-5 c = search needs
-
-enum-told-6 : tie.Need-enum-told-6
-enum-told-6 c = search needs
-
-enum-told-7 : tie.Need-enum-told-7
-enum-told-7 c = search needs
 
 returns : tie.Need-returns
 returns c = search needs
@@ -32,19 +38,13 @@ returns-2 : tie.Need-returns-2
 returns-2 c = search needs
 
 returns-3 : tie.Need-returns-3
-returns-3 c = rw (c .enum-told3 .given .1)
+returns-3 c = rw (c .before .before .before .before .field .given .1, ← c .before .stands-for .ensures, ← c .wide2 .ensures, ← c .before .before .wide .ensures)
 
 returns-4 : tie.Need-returns-4
-returns-4 c = rw (c .enum-told4 .given .1)
+returns-4 c = rw (c .before .enum-told3 .given .1)
 
 returns-5 : tie.Need-returns-5
-returns-5 c = rw (c .enum-told5 .given .1)
-
-returns-6 : tie.Need-returns-6
-returns-6 c = rw (c .enum-told6 .given .1)
-
-returns-7 : tie.Need-returns-7
-returns-7 c = search needs
+returns-5 c = search needs
 
 pub is-counted-spec : {M : Type 1} → statement M
 is-counted-spec =
@@ -52,15 +52,15 @@ is-counted-spec =
     (tie.spec
     enum-told
     enum-told-2
+    enum-known-field
+    wide-requires
+    stands-for-requires
+    wide-requires-2
+    add-result
     enum-told-3
     enum-told-4
-    enum-told-5
-    enum-told-6
-    enum-told-7
     returns
     returns-2
     returns-3
     returns-4
-    returns-5
-    returns-6
-    returns-7)
+    returns-5)

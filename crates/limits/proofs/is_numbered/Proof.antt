@@ -16,26 +16,20 @@ is-size-requires c κs = search needs
 enum-known-field-2 : tie.Need-enum-known-field-2
 enum-known-field-2 c = search needs
 
-are-below-requires : tie.Need-are-below-requires
-are-below-requires c κs = search needs
-
-enum-known-field-3 : tie.Need-enum-known-field-3
-enum-known-field-3 c = search needs
+note-tags-requires : tie.Need-note-tags-requires
+note-tags-requires c κs = search needs
 
 all-below-requires : tie.Need-all-below-requires
 all-below-requires c κs = search needs
 
-enum-known-field-4 : tie.Need-enum-known-field-4
-enum-known-field-4 c = search needs
+enum-known-field-3 : tie.Need-enum-known-field-3
+enum-known-field-3 c = search needs
 
-are-below-requires-2 : tie.Need-are-below-requires-2
-are-below-requires-2 c κs = search needs
+question-tags-requires : tie.Need-question-tags-requires
+question-tags-requires c κs = search needs
 
-enum-known-field-5 : tie.Need-enum-known-field-5
-enum-known-field-5 c = search needs
-
-are-below-requires-3 : tie.Need-are-below-requires-3
-are-below-requires-3 c κs = search needs
+all-below-requires-2 : tie.Need-all-below-requires-2
+all-below-requires-2 c κs = search needs
 
 enum-told-2 : tie.Need-enum-told-2
 enum-told-2 c = search needs
@@ -47,19 +41,13 @@ returns-2 : tie.Need-returns-2
 returns-2 c = rw (c .before .before .field .given .1) (c .is-size .ensures)
 
 returns-3 : tie.Need-returns-3
-returns-3 c = rw (c .before .before .field2 .given .1) (c .are-below .ensures)
+returns-3 c = rw (c .before .before .before .field2 .given .1, ← c .before .note-tags .ensures) (c .all-below .ensures)
 
 returns-4 : tie.Need-returns-4
-returns-4 c = rw (c .before .before .field3 .given .1) (c .all-below .ensures)
+returns-4 c = rw (c .before .before .before .field3 .given .1, ← c .before .question-tags .ensures) (c .all-below2 .ensures)
 
 returns-5 : tie.Need-returns-5
-returns-5 c = rw (c .before .before .field4 .given .1) (c .are-below2 .ensures)
-
-returns-6 : tie.Need-returns-6
-returns-6 c = rw (c .before .before .field5 .given .1) (c .are-below3 .ensures)
-
-returns-7 : tie.Need-returns-7
-returns-7 c = search needs
+returns-5 c = search needs
 
 pub is-numbered-spec : {M : Type 1} → statement M
 is-numbered-spec =
@@ -69,18 +57,14 @@ is-numbered-spec =
     enum-known-field
     is-size-requires
     enum-known-field-2
-    are-below-requires
-    enum-known-field-3
+    note-tags-requires
     all-below-requires
-    enum-known-field-4
-    are-below-requires-2
-    enum-known-field-5
-    are-below-requires-3
+    enum-known-field-3
+    question-tags-requires
+    all-below-requires-2
     enum-told-2
     returns
     returns-2
     returns-3
     returns-4
-    returns-5
-    returns-6
-    returns-7)
+    returns-5)

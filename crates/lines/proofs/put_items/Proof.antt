@@ -9,14 +9,14 @@ use native.Mathlib.Omega.{arith}
 use lib.ListN.{length, take, drop, length-drop}
 use denote.Ref.{now}
 use borrow.Rule.Slice.PartAt.{part-to-end}
-use Rattle.job.specs.Reading.{fieldAt, itemsIn}
-use Rattle.job.specs.Answer.{said, spanOfField}
+use Rattle.job.specs.Reading.{behindAt, fieldAt, itemsIn}
+use Rattle.job.specs.Answer.{said}
 use Rattle.job.proofs.Standing.{accepted-stands}
 use Rattle.digits.proofs.Puts.{put-place, put-length, half-none, half-as}
 use Rattle.lines.specs.Lines.{linesOf}
 use Rattle.digits.specs.Put.{Put}
 use Rattle.field_text.specs.Fields.{textAt, widthAt}
-use Rattle.lines.proofs.Walking.{Walked, underway, walk-on, walk-falls, walk-done, span-small}
+use Rattle.lines.proofs.Walking.{Walked, underway, walk-on, walk-done}
 use Rattle.lines.proofs.put_items.Statement.{statement}
 use Rattle.lines.proofs.put_items.Tie as tie
 
@@ -26,11 +26,14 @@ Inv-loop job report out₀ at₀ from₀ next₀ out at from next = (from ≤ le
 abbrev μ-loop : tie.MeasureT-loop
 μ-loop job report out₀ at₀ from₀ next₀ out at from next = length job - at
 
+behind-requires : tie.Need-behind-requires Inv-loop μ-loop
+behind-requires c κs = search needs
+
 loop-holds : tie.Need-loop-holds Inv-loop μ-loop
 loop-holds c =
-    let start = c .before .before .before in
+    let start = c .before .before .before .before in
     let is : itemsIn (now (start .args .job)) ≡ start .pre .items = rw (start .pre .reads) in
-    (zero-le, zero-le, refl, underway (accepted-stands _ _ _ (start .pre .reads) .stands) (half-as (rw is) (half-none _ _ 0 zero-le)))
+    (zero-le, zero-le, refl, underway {N = start .pre .head .size} {items = start .pre .items} (rw (c .behind .ensures) (accepted-stands _ _ _ (start .pre .reads) .stands)) (half-as (rw is) (half-none _ _ 0 zero-le)))
 
 read-requires : tie.Need-read-requires Inv-loop μ-loop
 read-requires c κs = search needs
@@ -53,23 +56,15 @@ passed-requires c κs = search needs
 add-from : tie.Need-add-from Inv-loop μ-loop
 add-from c = search needs
 
-span-requires : tie.Need-span-requires Inv-loop μ-loop
-span-requires c κs = search needs
-
-add-at : tie.Need-add-at Inv-loop μ-loop
-add-at c = omega (arith, span-small (said (c .before .before .before .before .before .before .before .read .result)))
+behind-requires-2 : tie.Need-behind-requires-2 Inv-loop μ-loop
+behind-requires-2 c κs = search needs
 
 loop-less : tie.Need-loop-less Inv-loop μ-loop
-loop-less c =
-    let start = c .before .before .before .before .before .before .before .before .before .before .before .before .before in
-    let head = c .before .before .before .before .before .before .before .before .before .loop in
-    let f : said (c .before .before .before .before .before .before .before .read .result) ≡ fieldAt (now (start .args .job)) (head .at) = c .before .before .before .before .before .before .before .read .ensures in
-    let es : c .span .result ≡ spanOfField (fieldAt (now (start .args .job)) (head .at)) = rw f at (c .span .ensures) in
-    omega (arith, walk-falls _ _ _ _ _ _ _ _ (head .inv .3) (c .before .before .before .before .before .before .before .before .loop-test .taken))
+loop-less c = omega (arith, c .behind2 .ensures, c .before .before .before .before .before .before .before .before .loop-test .taken)
 
 loop-again : tie.Need-loop-again Inv-loop μ-loop
 loop-again c =
-    let start = c .before .before .before .before .before .before .before .before .before .before .before .before .before in
+    let start = c .before .before .before .before .before .before .before .before .before .before .before .before .before .before in
     let head = c .before .before .before .before .before .before .before .before .before .loop in
     let job : List ℕ = now (start .args .job) in
     let report : List ℕ = now (start .args .report) in
@@ -78,7 +73,7 @@ loop-again c =
     let f : said (c .before .before .before .before .before .before .before .read .result) ≡ fieldAt job at = c .before .before .before .before .before .before .before .read .ensures in
     let r : take (length report - from) (drop from report) ≡ drop from report = part-to-end report from in
     let p : Put (textAt (fieldAt job at) (drop from report)) (head .out) (head .next) _ (c .before .before .before .before .put-field .result) = rw (f, r) at (c .before .before .before .before .put-field .ensures) in
-    let es : c .span .result ≡ spanOfField (fieldAt job at) = rw f at (c .span .ensures) in
+    let es : c .behind2 .result ≡ behindAt job at = c .behind2 .ensures in
     let ep : c .before .passed .result ≡ min (widthAt (fieldAt job at) (drop from report)) (length (drop from report)) = rw (f, r) at (c .before .passed .ensures) in (
       omega (arith, length-drop from report),
       put-place p,
@@ -98,6 +93,7 @@ put-items-spec =
     (tie.spec
     Inv-loop
     μ-loop
+    behind-requires
     loop-holds
     read-requires
     sub-rest
@@ -106,8 +102,7 @@ put-items-spec =
     put-field-requires
     passed-requires
     add-from
-    span-requires
-    add-at
+    behind-requires-2
     loop-less
     loop-again
     same-length

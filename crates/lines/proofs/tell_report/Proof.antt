@@ -31,7 +31,7 @@ put-items-requires : tie.Need-put-items-requires
 put-items-requires c κs =
     let e = sym (ap told (c .before .enum-told .given .1)) ∙ c .before .before .before .read-job .ensures in
     let t = told-accepted _ _ _ _ _ e in
-    record { size = _; items = t .items; reads = t .reads }
+    record { head = _; items = t .items; reads = t .reads }
 
 ending-requires : tie.Need-ending-requires
 ending-requires c κs = search needs

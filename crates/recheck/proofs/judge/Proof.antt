@@ -17,10 +17,13 @@ Inv-loop job report work₀ size len joins idle closed s₀ work s = Judging job
 abbrev μ-loop : tie.MeasureT-loop
 μ-loop job report work₀ size len joins idle closed s₀ work s = length job - s .at
 
+behind-requires : tie.Need-behind-requires Inv-loop μ-loop
+behind-requires c κs = search needs
+
 loop-holds : tie.Need-loop-holds Inv-loop μ-loop
 loop-holds c =
-    let start = c .before .before .before in
-    record { kept = within-refl (now (start .args .work)); judgeable = start .pre; going = going-start (now (start .args .report)) (start .pre) }
+    let start = c .before .before .before .before in
+    record { kept = within-refl (now (start .args .work)); judgeable = start .pre; going = going-start (now (start .args .report)) (start .pre) _ (c .behind .ensures) }
 
 advance-requires : tie.Need-advance-requires Inv-loop μ-loop
 advance-requires c κs = let at = c .before .loop in (at .inv .judgeable, at .inv .going)
@@ -58,6 +61,7 @@ judge-spec =
     (tie.spec
     Inv-loop
     μ-loop
+    behind-requires
     loop-holds
     advance-requires
     enum-known-t

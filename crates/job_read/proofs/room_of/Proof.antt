@@ -1,0 +1,33 @@
+-- `job_read::room_of` meets its contract: each arm has its question, at which `roomOf` computes.
+-- Assumes nothing.
+use mathlib.Core.Path.{refl}
+use native.Mathlib.Omega.{arith}
+use borrow.Author.Needs.{needs}
+use Rattle.job_read.proofs.room_of.Statement.{statement}
+use Rattle.job_read.proofs.room_of.Tie as tie
+
+most-numbers-requires : tie.Need-most-numbers-requires
+most-numbers-requires c κs = search needs
+
+enum-told : tie.Need-enum-told
+enum-told c = search needs
+
+enum-told-2 : tie.Need-enum-told-2
+enum-told-2 c = search needs
+
+mul-result : tie.Need-mul-result
+mul-result c = search needs
+
+add-result : tie.Need-add-result
+add-result c = search needs
+
+returns : tie.Need-returns
+returns c = search needs
+
+returns-2 : tie.Need-returns-2
+returns-2 c = rw (c .enum-told2 .given .1, c .before .before .most-numbers .ensures) (refl, omega arith)
+
+pub room-of-spec : {M : Type 1} → statement M
+room-of-spec =
+    tie.close
+    (tie.spec most-numbers-requires enum-told enum-told-2 mul-result add-result returns returns-2)
