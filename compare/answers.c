@@ -110,6 +110,7 @@ static void history_literally(struct history *history, const struct job *job)
         m->follows = literal_same(&after[q->before], q->s, q->t);
         m->leader_s = literal_leader(&after[q->before], q->s);
         m->leader_t = literal_leader(&after[q->before], q->t);
+        m->classes = literal_classes(&after[q->before], job->tags);
         m->first = 0;
         if (m->follows)
             while (!literal_same(&after[m->first], q->s, q->t))
@@ -139,6 +140,7 @@ static void history_by_use_lists(struct history *history, const struct job *job)
         m->follows = closure_same(closure, q->s, q->t);
         m->leader_s = closure_leader(closure, q->s);
         m->leader_t = closure_leader(closure, q->t);
+        m->classes = closure_classes(closure);
         m->first = m->follows && q->s != q->t ? first[q->s * job->tags + q->t] : 0;
     }
     history->classes = closure_classes(closure);
@@ -235,7 +237,7 @@ int reason_fault(const struct job *job, const struct history *history, int quest
         return POINT_LAST;
     if (some_spare(job, history->way, q->s, q->t, numbers, count))
         return POINT_SPARE;
-    if (count > 2 * (job->tags - 1))
+    if (count > 2 * (job->tags - m->classes))
         return POINT_BOUND;
     return 0;
 }
@@ -435,7 +437,7 @@ static const char *reason_line_fault(const struct job *job, const struct history
                                          "the list does not entail the equality",
                                          "the last number is not the first k, or a tag and itself have a list",
                                          "a record can be spared",
-                                         "more than 2(N-1) numbers"};
+                                         "more than 2(N-C) numbers"};
     const struct question *q = &job->question[question];
     int numbers[MOST_RECORDS];
     char front[64];

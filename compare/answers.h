@@ -17,6 +17,7 @@ struct moment {
     int follows;
     int leader_s, leader_t;
     int first;
+    int classes; /* by the records before the question */
 };
 
 struct history {
@@ -37,7 +38,7 @@ enum {
     POINT_ENTAILS,
     POINT_LAST,       /* empty for a tag and itself, otherwise the last is the first k */
     POINT_SPARE,      /* none can be spared */
-    POINT_BOUND       /* at most 2(N-1) */
+    POINT_BOUND       /* at most 2(N-C), with C the classes at the question (document 02, No. 13) */
 };
 int reason_fault(const struct job *job, const struct history *history, int question, const int *numbers, int count);
 

@@ -556,7 +556,7 @@ static void make_fibonacci(struct bytes *out, int n, uint64_t seed, long index)
     lay(out, n, &plan, high > 0 ? high - 1 : 0, high > 0 ? 2 * high - 1 : 0, &state);
 }
 
-/* A reason at the bound: two applications of the same tags for every join, 2(N-1) records. */
+/* A reason at the bound: two applications of the same tags for every join, 2(N-1) records and one class. */
 static void make_bound(struct bytes *out, int n, uint64_t seed, long index)
 {
     struct plan plan = {.count = 0};
@@ -566,6 +566,19 @@ static void make_bound(struct bytes *out, int n, uint64_t seed, long index)
         plan_apply(&plan, i + 1, i, i + 1);
     }
     lay(out, n, &plan, 0, n - 1, &state);
+}
+
+/* The same over some of the tags, while all others stay alone: with C classes 2(N-C) records, and every one of them is needed. */
+static void make_bound_apart(struct bytes *out, int n, uint64_t seed, long index)
+{
+    struct plan plan = {.count = 0};
+    uint64_t state = state_of(seed, index);
+    int together = 1 + random_below(&state, n);
+    for (int i = 0; i + 1 < together; i++) {
+        plan_apply(&plan, i + 1, i, i);
+        plan_apply(&plan, i + 1, i, i + 1);
+    }
+    lay(out, n, &plan, 0, together - 1, &state);
 }
 
 /* A reason at the bound where every join rests on all those before it; `way` 1: from the last to the first. */
@@ -697,6 +710,7 @@ const struct kind kinds[] = {
     {"collapse", "one tower, then its two lowest equal", 1000, make_collapse, NULL},
     {"fibonacci", "two towers, each tag resting on the two below", 1000, make_fibonacci, NULL},
     {"bound", "a reason at the bound: f(i+1,i)=i, f(i+1,i)=i+1", 1000, make_bound, NULL},
+    {"bound-apart", "at the bound with classes left: the same over some of the tags", 1000, make_bound_apart, NULL},
     {"bound-deep", "at the bound, each join resting on all before", 1000, make_bound_deep, NULL},
     {"bound-back", "the same from the last to the first", 1000, make_bound_back, NULL},
     {"redundant", "each link of a chain said three ways, shuffled", 1000, make_redundant, NULL},

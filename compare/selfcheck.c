@@ -88,7 +88,7 @@ static void closures(void)
         if (make("dense", 20 + 4 * (int)i, 102, i))
             compare_closures(closure);
     static const char *const large[] = {"chain-shuffled", "tower", "tower-back", "tower-shuffled", "collapse", "fibonacci",
-                                        "bound", "bound-deep", "bound-back", "redundant", "shapes", "quiet"};
+                                        "bound", "bound-apart", "bound-deep", "bound-back", "redundant", "shapes", "quiet"};
     for (size_t i = 0; i < sizeof large / sizeof *large; i++)
         if (make(large[i], 40, 103, 0))
             compare_closures(closure);
@@ -107,7 +107,7 @@ static void histories(void)
         for (int q = 0; q < job.questions; q++) {
             const struct moment *one = &history.moment[q], *two = &other_history.moment[q];
             same &= one->follows == two->follows && one->leader_s == two->leader_s && one->leader_t == two->leader_t &&
-                    one->first == two->first;
+                    one->first == two->first && one->classes == two->classes;
         }
         expect(same, "the two histories differ");
     }
@@ -128,7 +128,10 @@ static int entails(int s, int t, unsigned subset)
 }
 
 /* Every set of records before the question: a reason exactly if it entails, no smaller part of it does, and its last is the
-   first k. That it has at most 2(N-1) numbers must then come by itself. */
+   first k. That it has at most 2(N-C) numbers must then come by itself, and that 2(N-1) are met with one class only; both are
+   met, the first with more classes than one too. */
+static int met_with_one, met_with_more;
+
 static void all_subsets(int question, const unsigned char *entailing, int s, int t)
 {
     const struct question *q = &job.question[question];
@@ -147,7 +150,11 @@ static void all_subsets(int question, const unsigned char *entailing, int s, int
                 numbers[count++] = k;
         if (right && s != t)
             right = numbers[count - 1] == first;
-        expect(!right || count <= 2 * (job.tags - 1), "a list of which none can be spared is longer than 2(N-1)");
+        int classes = history.moment[question].classes, most = 2 * (job.tags - classes);
+        expect(!right || count <= most, "a list of which none can be spared is longer than 2(N-C)");
+        expect(!right || count == 0 || count < 2 * (job.tags - 1) || classes == 1, "2(N-1) numbers with more than one class");
+        met_with_one += right && count > 0 && count == most && classes == 1;
+        met_with_more += right && count > 0 && count == most && classes > 1;
         expect(right == (reason_fault(&job, &history, question, numbers, count) == 0), "a list is judged wrongly, literally");
         expect(right == (reason_fault(&job, &other_history, question, numbers, count) == 0),
                "a list is judged wrongly, by use lists");
@@ -169,6 +176,7 @@ static void subsets(void)
             all_subsets(q, entailing, s, t);
         }
     }
+    expect(met_with_one > 0 && met_with_more > 0, "the bound of 2(N-C) numbers is not met");
     done("every list of small jobs");
 }
 

@@ -7,11 +7,13 @@ use mathlib.Core.Path.{_≡_, refl, sym, _∙_, ap}
 use mathlib.Core.Logic.{_≢_, _↔_}
 use mathlib.Core.Bool.{Bool, true, false}
 use mathlib.Core.List.{List, [], _∷_, List·Memᴰ}
-use lib.ListN.{length, drop}
-use Rattle.meaning.specs.Following.{Rec, Follows, same, UpTo, Only, Without}
+use lib.ListN.{length, getD, drop}
+use Rattle.meaning.specs.Following.{Rec, eq, Follows, same, UpTo, Only, Without}
 use Rattle.meaning.specs.Reasons.{Above, lastOf, FirstAt, Reason}
 use Rattle.meaning.proofs.Exact.{first-one}
-use Rattle.meaning.proofs.Laws.{reason-follows}
+use Rattle.meaning.proofs.Laws.{reason-follows, reason-short}
+use Rattle.meaning.proofs.Short.{reason-others}
+use Rattle.meaning.proofs.Reference.{Small}
 use Rattle.meaning.proofs.Trim.{member-le-last, le-last}
 use Rattle.meaning.proofs.Close.{more-of}
 use Rattle.job.specs.Items.{explain}
@@ -21,6 +23,7 @@ use Rattle.table.specs.Past.{Past}
 use Rattle.meeting.specs.Meeting.{Met}
 use Rattle.meeting.proofs.Kept.{kept-records, kept-loaded}
 use Rattle.meeting.proofs.Moments.{met-join, met-first, met-later, met-never}
+use Rattle.reasons.proofs.Whole.{small-records}
 use Rattle.report.specs.Report.{numbers, field, Answers, because, apart, tabled, afterRecords}
 use Rattle.report.specs.Fault.{Stands}
 use Rattle.report_read.specs.Read.{Holds, FrontAt, whole, none}
@@ -90,16 +93,9 @@ module _ {rs : List Rec} {s t k : ℕ} (h : FirstAt rs s t k) where
   reason-rising r (yes e) = rw (r .empty e, none-first e) (record { rising = tt; last = refl })
   reason-rising r (no e) = record { rising = r .rising; last = first-one (r .last e) h }
 
-  pub reason-tested : {N R : ℕ} {L : List ℕ} → k ≤ R → length L ≤ 2 * (N - 1) → Rising L k → Follows (Only rs L) s t → ((m : ℕ) → List·Memᴰ m L → Follows (Without rs L m) s t → ⊥) → Reason N rs R s t L
-  reason-tested {N} {R} {L} l n g e u = record {
-    rising = g .rising;
-    stand = λ x i. omega (arith, member-le-last 0 L (g .rising) x i, g .last);
-    entails = e;
-    empty = λ q. no-number L (g .rising) (g .last ∙ none-first q);
-    last = λ d. rw (g .last) h;
-    unspared = u;
-    short = n;
-  }
+  pub reason-tested : {N R : ℕ} {L : List ℕ} → k ≤ R → ((i : ℕ) → i < length rs → Small N (getD rs i (eq 0 0))) → Rising L k → Follows (Only rs L) s t → ((m : ℕ) → List·Memᴰ m L → Follows (Without rs L m) s t → ⊥) → Reason N rs R s t L
+  reason-tested {N} {R} {L} l small g e u =
+      reason-others N rs small (g .rising) (λ x i. omega (arith, member-le-last 0 L (g .rising) x i, g .last)) e (λ q. no-number L (g .rising) (g .last ∙ none-first q)) (λ d. rw (g .last) h) u
 
 -- What a test that is exact says where it fails.
 pub untrue : {A : Type 0} {b : Bool} → (b ≡ true) ↔ A → b ≡ false → A → ⊥
@@ -111,7 +107,7 @@ module _ (w report : List ℕ) (at bytes : ℕ) (q : Question) where
   reason-odd h = record { kept = within-refl w; exact = is-not (λ r. h (omega (arith, r .all))) }
 
   pub reason-long : 2 * (q .size - 1) < bytes / 2 → Deciding (Reasoned w report at bytes q) w w false
-  reason-long h = record { kept = within-refl w; exact = is-not (λ r. omega (arith, r .all, r .reason .short)) }
+  reason-long h = record { kept = within-refl w; exact = is-not (λ r. omega (arith, r .all, reason-short (r .reason))) }
 
   module _ (w′ : List ℕ) {k : ℕ} (K : Known w q k) (even : bytes % 2 ≡ 0) (read : ListRead report at (bytes / 2) w w′) where
     list-is : (r : Reasoned w report at bytes q) → r .list ≡ listIn (bytes / 2) w′
@@ -150,7 +146,7 @@ module _ (w report : List ℕ) (at bytes : ℕ) (q : Question) where
                 list = listIn (bytes / 2) w′;
                 all = omega (arith, length-gather (listOf w′) (bytes / 2));
                 stand = read .read;
-                reason = reason-tested (K .first) (K .early) (omega (arith, length-gather (listOf w′) (bytes / 2))) rise (x .0 e .entails) (x .0 e .unspared .unspared);
+                reason = reason-tested (K .first) (K .early) (small-records (K .posed .past .loaded)) rise (x .0 e .entails) (x .0 e .unspared .unspared);
               },
               λ r.
                   let s : Serving (recordsIn (q .len) w) (q .s .0) (q .t .0) (r .list) = record { entails = r .reason .entails; unspared = record { unspared = r .reason .unspared } } in
@@ -160,7 +156,7 @@ module _ (w report : List ℕ) (at bytes : ℕ) (q : Question) where
 
 -- A reason that was found: where the bytes say it, they are those of a reason, and no test is left.
 pub own-few : {N : ℕ} {rs : List Rec} {R s t : ℕ} (n : ℕ) (w : List ℕ) → N ≤ 1000 → Reason N rs R s t (listIn n w) → n ≤ 1998
-own-few n w l r = omega (arith, r .short, length-gather (listOf w) n)
+own-few n w l r = omega (arith, reason-short r, length-gather (listOf w) n)
 
 module _ {w w′ report : List ℕ} {at bytes : ℕ} {q : Question} (f : Within 17003 32096 w w′) where
   pub own-not : Assuring (Reasoned w report at bytes q) w w′ false

@@ -164,8 +164,20 @@ unfolding decIff Dec·and decUpTo decBelow
 decFirstAt rs s t k = decIff (λ h. record { then = h .0; before = h .1 }, λ h. (h .then, h .before))
     (Dec·and (decUpTo rs k s t) (decBelow (λ n. Follows (UpTo rs n) s t) (λ n. decUpTo rs n s t) k))
 
+-- There is one number of classes, so the bound is tested for that one.
+unfoldable pub countClasses : (N : ℕ) (rs : List Rec) (k : ℕ) → (n : ℕ) × Classes N (UpTo rs k) n
+unfolding countIt decLeader
+countClasses N rs k = countIt (λ x. Leader (UpTo rs k) x x) (λ x. decLeader rs (λ n. leb n k) (λ n. n ≤ k) (upTo-test k) x x) N
+
+unfoldable pub decShort : (N : ℕ) (rs : List Rec) (R : ℕ) (L : List ℕ) → Dec ((C : ℕ) → Classes N (UpTo rs R) C → length L ≤ 2 * (N - C))
+unfolding decIff decLe countClasses
+decShort N rs R L = go (countClasses N rs R)
+  where
+    go : (n : ℕ) × Classes N (UpTo rs R) n → Dec ((C : ℕ) → Classes N (UpTo rs R) C → length L ≤ 2 * (N - C))
+    go c = decIff (λ l C d. rw (count-one d (c .1)) l, λ h. h (c .0) (c .1)) (decLe (length L) (2 * (N - c .0)))
+
 unfoldable pub decReason : (N : ℕ) (rs : List Rec) (R s t : ℕ) (L : List ℕ) → Dec (Reason N rs R s t L)
-unfolding decIff Dec·and decAbove decAll decLe decFollows decImp ℕ-discrete decEmpty Dec·not decFirstAt
+unfolding decIff Dec·and decAbove decAll decLe decFollows decImp ℕ-discrete decEmpty Dec·not decFirstAt decShort
 decReason N rs R s t L = decIff (
   λ h. record { rising = h .0; stand = h .1 .0; entails = h .1 .1 .0; empty = h .1 .1 .1 .0; last = h .1 .1 .1 .1 .0; unspared = h .1 .1 .1 .1 .1 .0; short = h .1 .1 .1 .1 .1 .1 },
   λ h. (h .rising, (h .stand, (h .entails, (h .empty, (h .last, (h .unspared, h .short)))))),
@@ -176,7 +188,7 @@ decReason N rs R s t L = decIff (
     (Dec·and (decImp (ℕ-discrete s t) (decEmpty L))
     (Dec·and (decImp (Dec·not (ℕ-discrete s t)) (decFirstAt rs s t (lastOf 0 L)))
     (Dec·and (decAll (λ m. Follows (Without rs L m) s t → ⊥) (λ m. Dec·not (decFollows rs (besides L m) (λ n. List·Memᴰ n L × (n ≢ m)) (without-test L m) s t)) L)
-    (decLe (length L) (2 * (N - 1)))))))))
+    (decShort N rs R L)))))))
 
 unfoldable pub decClasses : (N : ℕ) (rs : List Rec) (k n : ℕ) → Dec (Classes N (UpTo rs k) n)
 unfolding decCount decLeader

@@ -20,7 +20,7 @@ use Rattle.meaning.proofs.Log.{linked-follows}
 use Rattle.meaning.proofs.Count.{count-of, count-one}
 use Rattle.meaning.proofs.Trim.{last-is-first}
 use Rattle.meaning.proofs.Reference.{Small}
-use Rattle.meaning.proofs.Short.{unspared-short}
+use Rattle.meaning.proofs.Short.{reason-others}
 
 -- The state of a closure of the records in P that has nothing left to do: the labels f are those of its n joins e, each join rests on older ones and on records
 -- in P, and no record in P contradicts the labels.
@@ -45,24 +45,14 @@ module _ {rs : List Rec} {P : ℕ → Type 0} {e : ℕ → Join} {n : ℕ} {f : 
 pub reason-set : (N : ℕ) (rs : List Rec) → ((i : ℕ) → i < length rs → Small N (getD rs i (eq 0 0))) → (R s t k : ℕ) (X : ℕ → Type 0) (L : List ℕ)
     → s ≢ t → k ≤ R → FirstAt rs s t k → ((n : ℕ) → X n → n ≤ k) → Follows (Those rs X) s t → ((m : ℕ) → X m → Follows (Those rs (λ n. X n × (n ≢ m))) s t → ⊥)
     → Above 0 L → ((n : ℕ) → List·Memᴰ n L ↔ X n) → Reason N rs R s t L
-reason-set N rs small R s t k X L d l f u x p a e = record {
-  rising = a;
-  stand = λ n i. omega (arith, within n i);
-  entails = again;
-  empty = λ q. absurd (d q);
-  last = λ _. rw (last-is-first rs s t k L f a within again) f;
-  unspared = spare;
-  short = unspared-short N rs small s t L a again spare;
-}
+reason-set N rs small R s t k X L d l f u x p a e =
+    reason-others N rs small a (λ n i. omega (arith, within n i)) again (λ q. absurd (d q)) (λ _. rw (last-is-first rs s t k L f a within again) f) (λ m i g. p m (e m .0 i) (more-of (λ n j. (e n .0 (j .0), j .1)) g))
   where
     within : (n : ℕ) → List·Memᴰ n L → n ≤ k
     within n i = u n (e n .0 i)
 
     again : Follows (Only rs L) s t
     again = more-of (λ n. e n .1) x
-
-    spare : (m : ℕ) → List·Memᴰ m L → Follows (Without rs L m) s t → ⊥
-    spare m i g = p m (e m .0 i) (more-of (λ n j. (e n .0 (j .0), j .1)) g)
 
 -- The same from a list that rises already, ..
 pub reason-list : (N : ℕ) (rs : List Rec) → ((i : ℕ) → i < length rs → Small N (getD rs i (eq 0 0))) → (R s t k : ℕ) (L : List ℕ)
@@ -85,7 +75,7 @@ reason-same N rs R s = record {
   empty = λ p. refl;
   last = λ n. absurd (n refl);
   unspared = λ m i. absurd (List·Memᴰ·not-nil i);
-  short = omega arith;
+  short = λ C c. omega arith;
 }
 
 -- Later records change nothing that is said of a front.

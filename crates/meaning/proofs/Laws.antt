@@ -1,8 +1,8 @@
 -- The laws that later layers cite of the definitions themselves: what is one, what is decided, what stays among the tags of a job, and that there
 -- is a reason wherever equality follows. Each puts together what the other files prove. Assumes nothing.
-use Prim.Native.Nat.{ℕ, zero, suc, _≤_, _<_}
+use Prim.Native.Nat.{ℕ, zero, suc, _≤_, _<_, _*_, _-_}
 use native.Mathlib.Omega.{arith}
-use native.Mathlib.Decide.{ℕ-discrete}
+use native.Mathlib.Decide.{ℕ-discrete, decLt}
 use mathlib.Core.Path.{_≡_}
 use mathlib.Core.Logic.{_≢_, _↔_}
 use mathlib.Core.Bool.{Bool, true, false}
@@ -12,14 +12,14 @@ use lib.ListN.{length, getD}
 use Rattle.meaning.specs.Following.{Rec, eq, app, Follows, same, flip, chain, given, congruent, Those, UpTo, Leader}
 use Rattle.meaning.specs.Joins.{all, put}
 use Rattle.meaning.specs.Reasons.{FirstAt, Reason}
-use Rattle.meaning.specs.Totals.{Classes, Idles}
+use Rattle.meaning.specs.Totals.{none, one, skip, Classes, Idles}
 use Rattle.meaning.specs.Trim.{Trimmed}
 use Rattle.meaning.proofs.Close.{more, more-of}
 use Rattle.meaning.proofs.Count.{count-one, count-most}
 use Rattle.meaning.proofs.Reference.{Small}
 use Rattle.meaning.proofs.Rising.{numbers, numbers-rise, numbers-in}
 use Rattle.meaning.proofs.Short.{among, among-in, in-among}
-use Rattle.meaning.proofs.Decide.{decFollows, decUpTo, decReason}
+use Rattle.meaning.proofs.Decide.{decFollows, decUpTo, decReason, countClasses}
 use Rattle.meaning.proofs.Trim.{trim-start, trim-drop, trim-keep, trim-same, drop-bit}
 use Rattle.meaning.proofs.Exact.{first-at, reason-of, reason-same}
 
@@ -71,6 +71,24 @@ leader-low {s = s} h = h .least s same
 -- What has a reason follows from the records before the question.
 pub reason-follows : {N : ℕ} {rs : List Rec} {R s t : ℕ} {L : List ℕ} → Reason N rs R s t L → Follows (UpTo rs R) s t
 reason-follows h = more-of (h .stand) (h .entails)
+
+-- Of one tag or more there is one class or more, so a reason has at most 2(N-1) numbers, of which document 01's needed room is made.
+pub classes-some : {N : ℕ} {S : Rec → Type 0} {n : ℕ} → 1 ≤ N → Classes N S n → 1 ≤ n
+classes-some h none = absurd (omega arith)
+classes-some h (one p c) = omega arith
+classes-some h (skip {N = zero} p c) = absurd (p (record { member = same; least = λ x f. omega arith }))
+classes-some h (skip {N = suc N} p c) = classes-some (omega arith) c
+
+pub reason-short : {N : ℕ} {rs : List Rec} {R s t : ℕ} {L : List ℕ} → Reason N rs R s t L → length L ≤ 2 * (N - 1)
+reason-short {N} {rs} {R} h = let c = countClasses N rs R in go (decLt 0 N) (h .short (c .0) (c .1)) (c .1)
+  where
+    go : {m n : ℕ} → Dec (0 < N) → m ≤ 2 * (N - n) → Classes N (UpTo rs R) n → m ≤ 2 * (N - 1)
+    go (yes l) k c = omega (arith, k, classes-some l c)
+    go (no l) k c = omega (arith, k)
+
+-- "2(N-1) can be met only with one class".
+pub reason-full : {N : ℕ} {rs : List Rec} {R s t : ℕ} {L : List ℕ} {C : ℕ} → 2 ≤ N → Reason N rs R s t L → Classes N (UpTo rs R) C → length L ≡ 2 * (N - 1) → C ≡ 1
+reason-full h r c e = omega (arith, r .short _ c, classes-some (omega arith) c)
 
 -- Where equality follows there is a first k ..
 pub first-there : (rs : List Rec) (R s t : ℕ) → Follows (UpTo rs R) s t → (k : ℕ) × (k ≤ R) × FirstAt rs s t k

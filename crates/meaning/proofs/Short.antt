@@ -1,17 +1,16 @@
 -- The log of the list's own closure entails again, by the records that it used, so a list of which none can be spared has only those; they are at most two for each join, and
--- there are as many joins as tags less classes. So it has at most 2(N-C) numbers, and 2(N-1). Assumes nothing.
+-- there are as many joins as tags less classes. So it has at most 2(N-C) numbers, and the other points of a reason make that one. Assumes nothing.
 use Prim.Native.Nat.{ℕ, zero, suc, _≤_, _<_, _*_, _-_}
 use native.Mathlib.Omega.{arith}
-use native.Mathlib.Decide.{decLt}
 use mathlib.Core.Path.{_≡_, refl, ap}
-use mathlib.Core.Logic.{inl, inr}
+use mathlib.Core.Logic.{inl, inr, _≢_}
 use mathlib.Core.Bool.{Bool, true, false, _||_}
 use mathlib.Core.List.{List, [], _∷_, List·Memᴰ, List·Memᴰ·head, List·Memᴰ·tail, List·Memᴰ·cases-cons, List·Memᴰ·not-nil}
 use lib.Dec.{T, eqb}
 use borrow.Author.Tests.{eq-eqb, eqb-true}
 use lib.ListN.{length, getD}
 use Rattle.meaning.specs.Following.{Rec, eq, Follows, Those, UpTo, Only, Without}
-use Rattle.meaning.specs.Reasons.{Above, Reason}
+use Rattle.meaning.specs.Reasons.{Above, lastOf, FirstAt, Reason}
 use Rattle.meaning.specs.Joins.{used, all, count, tick}
 use Rattle.meaning.specs.Labels.{Labels, classes}
 use Rattle.meaning.specs.Totals.{Classes}
@@ -86,14 +85,15 @@ module _ (N : ℕ) (rs : List Rec) (small : (i : ℕ) → i < length rs → Smal
   unspared-tight P C within c =
       omega (arith, own, classes-more (λ r i. (i .0, within (i .0) (among-in L (i .0) (i .1)), i .2)) (classes-of (st .labels) (done-same N rs small (among L) d) N) c)
 
-  pub unspared-short : length L ≤ 2 * (N - 1)
-  unspared-short = go (decLt 0 N)
-    where
-      go : Dec (0 < N) → length L ≤ 2 * (N - 1)
-      go (yes h) = omega (arith, own, some-class N (st .f) (st .labels) h)
-      go (no h) = omega (arith, own)
-
--- A reason has at most 2(N-C) numbers, with C the number of classes at the question.
-pub reason-tight : {N : ℕ} {rs : List Rec} {R s t : ℕ} {L : List ℕ} {C : ℕ} → ((i : ℕ) → i < length rs → Small N (getD rs i (eq 0 0)))
-    → Reason N rs R s t L → Classes N (UpTo rs R) C → length L ≤ 2 * (N - C)
-reason-tight {N} {rs} {R} {s} {t} {L} {C} small h c = unspared-tight N rs small s t L (h .rising) (h .entails) (h .unspared) (λ k. k ≤ R) C (h .stand) c
+-- A list that meets the other points of a reason meets the last one too, so no list became a reason, or ceased to be one, by the stronger figure.
+pub reason-others : (N : ℕ) (rs : List Rec) → ((i : ℕ) → i < length rs → Small N (getD rs i (eq 0 0))) → {R s t : ℕ} {L : List ℕ} → Above 0 L → ((k : ℕ) → List·Memᴰ k L → k ≤ R)
+    → Follows (Only rs L) s t → (s ≡ t → L ≡ []) → (s ≢ t → FirstAt rs s t (lastOf 0 L)) → ((m : ℕ) → List·Memᴰ m L → Follows (Without rs L m) s t → ⊥) → Reason N rs R s t L
+reason-others N rs small {R} {s} {t} {L} a b e q l u = record {
+  rising = a;
+  stand = b;
+  entails = e;
+  empty = q;
+  last = l;
+  unspared = u;
+  short = λ C c. unspared-tight N rs small s t L a e u (λ k. k ≤ R) C b c;
+}

@@ -6,6 +6,7 @@ use mathlib.Core.Logic.{_≢_}
 use mathlib.Core.List.{List, [], _∷_, List·Memᴰ}
 use lib.ListN.{length}
 use Rattle.meaning.specs.Following.{Rec, Follows, UpTo, Only, Without}
+use Rattle.meaning.specs.Totals.{Classes}
 
 -- "The numbers rise strictly", and the first of them is above m. With m = 0 every number is a record's.
 abbrev pub Above : ℕ → List ℕ → Type 0
@@ -36,5 +37,5 @@ pub record Reason (N : ℕ) (rs : List Rec) (R s t : ℕ) (L : List ℕ) : Type 
   pub last : s ≢ t → FirstAt rs s t (lastOf 0 L)
   -- 4. "none can be spared: without any one of its records, the rest do not make s and t equal"
   pub unspared : (m : ℕ) → List·Memᴰ m L → Follows (Without rs L m) s t → ⊥
-  -- 5. "it has at most 2(N-1) numbers"
-  pub short : length L ≤ 2 * (N - 1)
+  -- 5. "it has at most 2(N-1) numbers", by document 02, No. 13: "at most 2(N-C) numbers, with C the number of classes at its question"
+  pub short : (C : ℕ) → Classes N (UpTo rs R) C → length L ≤ 2 * (N - C)

@@ -10,6 +10,7 @@ use lib.ListN.{length, getD, set, length-set}
 use lib.Seq.{getD-set-same, getD-set-other}
 use Rattle.meaning.specs.Following.{Rec, eq, app}
 use Rattle.meaning.proofs.Reference.{Small}
+use Rattle.meaning.proofs.Laws.{reason-short}
 use Rattle.meaning.proofs.Rising.{above-all}
 use Rattle.table.specs.Map.{listOf, listIn, recAt, Loaded, Within}
 use Rattle.table.proofs.Frame.{seen-at, seen-within, gather-in, length-gather, within-refl, within-trans, within-wider, within-set}
@@ -109,7 +110,7 @@ loaded-wide {w = w} h = record { long = h .long; some = omega arith; few = omega
 pub explained-listed : {N len joins before s t c : ℕ} {w w′ : List ℕ} → before ≤ len → Explained N len joins before s t w w′ (Because c) → Listed 1000 len c w′
 explained-listed {N} {c = c} {w′ = w′} l e = record {
   loaded = loaded-wide (e .past .loaded);
-  short = let q : c ≤ 2 * (N - 1) = rw (length-gather (listOf w′) c) at (e .says .short) in omega (arith, e .past .loaded .few);
+  short = let q : c ≤ 2 * (N - 1) = rw (length-gather (listOf w′) c) at (reason-short (e .says)) in omega (arith, e .past .loaded .few);
   named = λ i k. (above-all 0 (listIn c w′) (e .says .rising) (listOf w′ i) (gather-in (listOf w′) c i k), omega (arith, e .says .stand (listOf w′ i) (gather-in (listOf w′) c i k)));
 }
 

@@ -19,6 +19,8 @@ use Rattle.meaning.proofs.Log.{linked-follows}
 use Rattle.needed.proofs.Needed.{used-up}
 use Rattle.meaning.proofs.Reference.{Small}
 use Rattle.meaning.proofs.Exact.{reason-of, reason-same}
+use Rattle.meaning.proofs.Decide.{countClasses}
+use Rattle.meaning.proofs.Leaders.{classes-more}
 use Rattle.table.specs.Map.{whenOf, firstOf, secondOf, listOf, listIn, recAt, recordsIn, joinAt, Loaded, Within}
 use Rattle.table.proofs.Frame.{length-gather, getD-gather, gather-in, within-refl, within-trans, within-wider}
 use Rattle.table.specs.Past.{Past, ageAfter}
@@ -81,7 +83,7 @@ module _ {N len n : ℕ} {w : List ℕ} (P : Past N len w n) where
       (used-some (suc b) l k j, P .moments (whenOf w b) (P .made b l .1) .within k (used-up (joinAt w) all (suc b) (ageAfter w n (whenOf w b)) k (made-by P b l) j))
 
 -- The records of the table, as the mathematics wants them.
-small-records : {N len : ℕ} {w : List ℕ} → Loaded N len w → (i : ℕ) → i < length (recordsIn len w) → Small N (getD (recordsIn len w) i (eq 0 0))
+pub small-records : {N len : ℕ} {w : List ℕ} → Loaded N len w → (i : ℕ) → i < length (recordsIn len w) → Small N (getD (recordsIn len w) i (eq 0 0))
 small-records {N} {len} {w} h i l =
     let k : i < len = rw (length-gather (λ j. recAt w (suc j)) len) at l in
     rw (getD-gather (λ j. recAt w (suc j)) len i (eq 0 0) k) (h .small i k)
@@ -193,7 +195,15 @@ module _ {N len n s t b : ℕ} {w : List ℕ} (J : Joining N len n s t b w) wher
 
 -- A reason serves a later question too.
 reason-later : {N k R s t : ℕ} {rs : List Rec} {L : List ℕ} → k ≤ R → Reason N rs k s t L → Reason N rs R s t L
-reason-later l r = record { rising = r .rising; stand = λ n i. omega (arith, r .stand n i); entails = r .entails; empty = r .empty; last = r .last; unspared = r .unspared; short = r .short }
+reason-later {N} {k} {rs = rs} l r = record {
+  rising = r .rising;
+  stand = λ n i. omega (arith, r .stand n i);
+  entails = r .entails;
+  empty = r .empty;
+  last = r .last;
+  unspared = r .unspared;
+  short = λ C c. let d = countClasses N rs k in omega (arith, r .short (d .0) (d .1), classes-more (λ x i. let b : i .0 ≤ k = i .1 in (i .0, omega arith, i .2)) (d .1) c);
+}
 
 -- The four answers.
 module _ {N len n before s t : ℕ} {w : List ℕ} (Q : Question N len n before s t w) where

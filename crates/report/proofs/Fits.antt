@@ -1,5 +1,5 @@
 -- A sound report is no longer than the room that document 01 calls needed: the numbers of a reason rise within 1 to R, so that they are
--- at most R many, and by the last point of a reason they are at most 2(N-1).
+-- at most R many, and by the last point of a reason they are at most 2(N-C), which is at most 2(N-1).
 -- Assumes nothing.
 use Prim.Native.Nat.{ℕ, _+_, _*_, _-_, _≤_, min}
 use native.Mathlib.Omega.{arith}
@@ -8,6 +8,7 @@ use mathlib.Core.List.{List, [], _∷_, List·Memᴰ, List·Memᴰ·head, List·
 use lib.ListN.{length, length-append}
 use Rattle.meaning.specs.Following.{Rec}
 use Rattle.meaning.specs.Reasons.{Above, Reason}
+use Rattle.meaning.proofs.Laws.{reason-short}
 use Rattle.job.specs.Items.{Matter, Moment, Question, roomOf, Item, neededRoom}
 use Rattle.report.specs.Report.{numbers, Answers, led, because, apart, Totalled, total, Sound, totals, passed, answered}
 use Rattle.report.proofs.Bytes.{length-numbers, length-field}
@@ -18,7 +19,7 @@ rising-few m R [] a h = omega arith
 rising-few m R (k ∷ L) a h = omega (arith, h k (List·Memᴰ·head refl), rising-few k R L (a .1) (λ n i. h n (List·Memᴰ·tail i)))
 
 pub reason-few : {N : ℕ} {rs : List Rec} {R s t : ℕ} {L : List ℕ} → Reason N rs R s t L → length L ≤ min R (2 * (N - 1))
-reason-few {N} {rs} {R} {s} {t} {L} r = omega (arith, rising-few 0 R L (r .rising) (r .stand), r .short)
+reason-few {N} {rs} {R} {s} {t} {L} r = omega (arith, rising-few 0 R L (r .rising) (r .stand), reason-short r)
 
 pub answers-fits : {M : Matter} {b : Moment} {q : Question} {f : List ℕ} → Answers M b q f → length f ≤ roomOf (M .head) b q
 answers-fits (led {l = l} {m = m} h k) = omega (arith, length-field 131 (numbers (l ∷ m ∷ [])), length-numbers (l ∷ m ∷ []))
