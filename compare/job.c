@@ -1,4 +1,4 @@
-/* Reading a job front to back, one field at a time, in document 01's order of checks. Rests on job.h only. */
+/* Reading a job front to back, one field at a time, in document 01's order of checks; document 02, No. 2, for the tags. Rests on job.h only. */
 #include "job.h"
 
 int two_bytes(const unsigned char *at)
@@ -43,22 +43,23 @@ static int too_many(const struct job *job, int kind)
     }
 }
 
-static int numbers_in_range(const struct job *job, int kind, const unsigned char *body)
+/* Which number of the body is a tag of N or more, counted from 0; of several the first. -1 if there is none. */
+static int wrong_tag(const struct job *job, int kind, const unsigned char *body)
 {
-    if (kind == KIND_TAGS)
-        return two_bytes(body) >= 1 && two_bytes(body) <= MOST_TAGS;
-    for (int i = 0; i < body_length(kind); i += 2)
-        if (two_bytes(body + i) >= job->tags)
-            return 0;
-    return 1;
+    for (int i = 0; i < body_length(kind) / 2; i++)
+        if (two_bytes(body + 2 * i) >= job->tags)
+            return i;
+    return -1;
 }
 
-/* The first check that the field at `at` fails, in document 01's order, or 0. */
-static int field_refusal(const struct job *job, const unsigned char *bytes, size_t length, size_t at)
+/* The first check that the field at `at` fails, in document 01's order, or 0; `place` is where it fails. */
+static int field_refusal(const struct job *job, const unsigned char *bytes, size_t length, size_t at, size_t *place)
 {
+    *place = at;
     if (length - at < 3)
         return 3;
     int kind = bytes[at];
+    const unsigned char *body = bytes + at + 3;
     if (!in_its_place(kind, at == 0))
         return 4;
     if (two_bytes(bytes + at + 1) != body_length(kind))
@@ -67,9 +68,13 @@ static int field_refusal(const struct job *job, const unsigned char *bytes, size
         return 3;
     if (too_many(job, kind))
         return 7;
-    if (!numbers_in_range(job, kind, bytes + at + 3))
-        return 6;
-    return 0;
+    if (kind == KIND_TAGS)
+        return two_bytes(body) >= 1 && two_bytes(body) <= MOST_TAGS ? 0 : 6;
+    int wrong = wrong_tag(job, kind, body);
+    if (wrong < 0)
+        return 0;
+    *place = at + 3 + 2 * (size_t)wrong;
+    return 11 + wrong;
 }
 
 static void take_record(struct job *job, int kind, const unsigned char *body)
@@ -106,10 +111,11 @@ void job_read(struct job *job, const unsigned char *bytes, size_t length)
         return;
     }
     for (size_t at = 0;;) {
-        int refusal = field_refusal(job, bytes, length, at);
+        size_t place;
+        int refusal = field_refusal(job, bytes, length, at, &place);
         if (refusal != 0) {
             job->number = refusal;
-            job->place = (long)at;
+            job->place = (long)place;
             return;
         }
         int kind = bytes[at];

@@ -1,5 +1,5 @@
-/* A job read by document 01, sections "The job and the report" and "What is lent, and each refusal".
-   Written from that document alone; rests on nothing else here. */
+/* A job read by document 01, sections "The job and the report" and "What is lent, and each refusal", and by document 02, No. 2.
+   Written from those documents alone; rests on nothing else here. */
 #ifndef JOB_H
 #define JOB_H
 
@@ -52,7 +52,7 @@ struct job {
     struct question question[MOST_QUESTIONS];
 };
 
-/* Reads a job: refusals 1 and 3 to 8, or 0. The refusals 2 and 9 depend on what is lent: see below. */
+/* Reads a job: refusals 1, 3 to 8 and 11 to 13, or 0. The refusals 2 and 9 depend on what is lent: see below. */
 void job_read(struct job *job, const unsigned char *bytes, size_t length);
 
 /* The number that a run gives with these loans; its place is the job's place, or 0. */

@@ -333,6 +333,19 @@ static void limit_tag(struct bytes *out, int which)
     end(out);
 }
 
+/* Several tags of one field at the limit: every choice of those that are too high, in each kind, by one or by many. */
+static void limit_tags_wrong(struct bytes *out, int which)
+{
+    static const int kind[] = {KIND_EQUAL, KIND_APPLY, KIND_ASK, KIND_EXPLAIN};
+    int chosen = which % 8, far = which / 8 % 2, n = 3, number[3];
+    for (int i = 0; i < 3; i++)
+        number[i] = chosen >> i & 1 ? far ? 65535 - i : n : n - 1;
+    tags(out, n);
+    apply(out, 0, 1, 2);
+    field(out, kind[which / 16], kind[which / 16] == KIND_APPLY ? 3 : 2, number[0], number[1], number[2]);
+    end(out);
+}
+
 static void limit_counts(struct bytes *out, int which)
 {
     tags(out, 1);
@@ -366,7 +379,7 @@ static void limit_counts(struct bytes *out, int which)
         if (which == 11)
             byte_add(out, 0);
         return;
-    case 12: /* the 4,001st record has a tag too high: 7 before 6 */
+    case 12: /* the 4,001st record has a tag too high: 7 before 11 */
         repeat_records(out, 4000, 0);
         equal(out, 1, 0);
         break;
@@ -425,7 +438,7 @@ static void limit_room(struct bytes *out, int which)
     end(out);
 }
 
-enum { LIMIT_TAGS = 1, LIMIT_TAG = LIMIT_TAGS + 8, LIMIT_COUNTS = LIMIT_TAG + 54, LIMIT_SHAPES = LIMIT_COUNTS + 18,
+enum { LIMIT_TAGS = 1, LIMIT_TAG = LIMIT_TAGS + 8, LIMIT_WRONG = LIMIT_TAG + 54, LIMIT_COUNTS = LIMIT_WRONG + 64, LIMIT_SHAPES = LIMIT_COUNTS + 18,
        LIMIT_ROOM = LIMIT_SHAPES + 50, LIMIT_BEHIND = LIMIT_ROOM + 2, LIMITS = LIMIT_BEHIND + 2 };
 
 static long limit_cases(uint64_t seed)
@@ -443,8 +456,10 @@ static void make_limit(struct bytes *out, int size, uint64_t seed, long index)
         return; /* the empty job */
     if (which < LIMIT_TAG)
         limit_tags(out, which - LIMIT_TAGS);
-    else if (which < LIMIT_COUNTS)
+    else if (which < LIMIT_WRONG)
         limit_tag(out, which - LIMIT_TAG);
+    else if (which < LIMIT_COUNTS)
+        limit_tags_wrong(out, which - LIMIT_WRONG);
     else if (which < LIMIT_SHAPES)
         limit_counts(out, which - LIMIT_COUNTS);
     else if (which < LIMIT_ROOM)

@@ -2,7 +2,7 @@
 
      second judge JOB TEXT      judges the lines that tagcheck wrote for a job
      second report JOB REPORT   judges a report; prints `number place` as the recheck must
-     second refuse JOB          prints `number place needed`: the refusal 1, 3 to 8 or 0 0, and the needed room (0 if refused)
+     second refuse JOB          prints `number place needed`: the refusal 1, 3 to 8, 11 to 13 or 0 0, and the needed room (0 if refused)
      second lines JOB           lines of its own, as tagcheck may write them
      second answer JOB          a report of its own, as bytes
      second frames              judges a test program's stream on standard input (frames.h)

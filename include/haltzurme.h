@@ -1,7 +1,8 @@
 /* Haltzurme from C. Link with target/staticlib/libhaltzurme_c.a, which `rt staticlib haltzurme_c` writes (x86-64).
  *
- * Both functions take any contents and any lengths, and answer document 01's number: 0 accepted (recheck: the report is sound), 1 the job is longer than 43,008 bytes,
- * 2 the work table is shorter than 32,768 numbers, 3 to 8 the job is refused, 9 the room is smaller than needed (run), 10 the report is unsound (recheck).
+ * Both functions take any contents and any lengths, and answer the documents' number: 0 accepted (recheck: the report is sound), 1 the job is longer than 43,008 bytes,
+ * 2 the work table is shorter than 32,768 numbers, 3 to 8 the job is refused, 9 the room is smaller than needed (run), 10 the report is unsound (recheck),
+ * 11, 12 or 13 the first, second or third tag of a field is N or more, at the tag's own first byte (document 02, No. 2).
  * After 1 and 2 nothing lent has changed; after any other answer the first 32,768 numbers of the work table are zero and the rest is as it was.
  * Nothing checks these declarations against the Rattle source, crates/haltzurme_c/src/lib.rt: keep them alike. */
 #ifndef HALTZURME_H

@@ -1,3 +1,2 @@
 pub mod One
-pub mod Numbers
 pub mod Passing

@@ -9,6 +9,7 @@ use lib.ListN.{length, take}
 use lib.Seq.{take-at}
 use Rattle.job.specs.Items.{Head, matterOf, start, Item, Reading, refused, accepted}
 use Rattle.job.specs.Reading.{reading}
+use Rattle.job.proofs.Numbers.{refused-some}
 use Rattle.records.specs.declared.Record.{Record}
 use Rattle.report.specs.Report.{Sound}
 use Rattle.report.specs.Fault.{FaultAt}
@@ -18,7 +19,6 @@ use Rattle.running.specs.Run.{Ran}
 use Rattle.running.specs.Run as run
 use Rattle.rechecking.specs.Recheck.{Rechecked, long, narrow, unread, unsound, sound}
 use Rattle.haltzurme.proofs.One.{blanked-one, cleared-one, lent-not, clash, refused-one, accepted-one}
-use Rattle.haltzurme.proofs.Numbers.{refused-number}
 
 -- A sound report has no fault, by whichever reading of the job.
 no-fault : {H H′ : Head} {p : ℕ} {items items′ : List Item} {report : List ℕ} → H ≡ H′ → items ≡ items′ → Sound (matterOf H items) start items report → FaultAt (matterOf H′ items′) start items′ 0 report p → ⊥
@@ -35,7 +35,7 @@ sound-passes i e s (sound i′ e′ s′ m) = (refl, refl)
 
 pub passes : {job room room′ : List ℕ} {records records′ : List Record} {work work′ : List ℕ} {l : ℕ} → Ran job room records work 0 0 l room′ records′ work′
     → {records₁ records₂ : List Record} {work₁ work₂ : List ℕ} {n p : ℕ} → Lent job records₁ work₁ → Rechecked job (take l room′) records₁ work₁ n p records₂ work₂ → (n ≡ 0) × (p ≡ 0)
-passes (run.unread i e m) i′ r = absurd (omega (arith, refused-number _ 0 0 e .0))
+passes (run.unread i e m) i′ r = absurd (omega (arith, refused-some _ 0 0 e))
 passes (run.done {bs = bs} i e h s m) i′ r = sound-passes i′ e (rw (take-at bs _ (length bs) refl) s) r
 
 -- Two rechecks of the same job and report with the same tables.

@@ -1,3 +1,5 @@
 pub mod Items
 pub mod Reading
 pub mod Standing
+pub mod Numbers
+pub mod Wrong

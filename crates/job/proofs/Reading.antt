@@ -5,12 +5,13 @@ use Prim.Native.Nat.{ℕ, zero, suc, _+_, _≤_, _<_}
 use native.Mathlib.Omega.{arith}
 use mathlib.Core.Path.{_≡_, refl, sym, _∙_, ap, subst}
 use mathlib.Core.Bool.{Bool, true, false, cond, _&&_}
-use mathlib.Core.List.{List, []}
-use borrow.Author.Tests.{leb-true, lt-leb, ne-eqb}
-use lib.Dec.{eqb, leb}
+use mathlib.Core.List.{List, [], _∷_}
+use borrow.Author.Tests.{ltb-true, leb-true, lt-leb, ne-eqb}
+use lib.Dec.{eqb, ltb, leb}
 use lib.ListN.{length}
 use Rattle.job.specs.Items.{Head, Moment, start, after, Item, Reading, refused, accepted}
-use Rattle.job.specs.Reading.{Kind, record-eq, record-app, question-ask, question-explain, last, Field, bad, header, item, end, known, bodyLength, bodyAt, laterKind, kindAt, byteAt, lengthAt, behindAt, orElse, ofKind, fieldAt, counted, numbered, checked, with, behind, onward, readFrom}
+use Rattle.job.specs.Standing.{Below}
+use Rattle.job.specs.Reading.{Kind, record-eq, record-app, question-ask, question-explain, last, Field, bad, header, item, end, known, bodyLength, bodyAt, laterKind, kindAt, byteAt, lengthAt, behindAt, orElse, ofKind, fieldAt, counted, sized, fieldTags, tagged, checked, with, behind, onward, readFrom}
 
 -- A field that is not refused.
 abbrev pub Sound : Field → Type 0
@@ -23,21 +24,28 @@ orElse-passed : (b : Bool) (n : ℕ) (f g : Field) → Sound g → orElse b n f 
 orElse-passed true n f g s e = (refl, e)
 orElse-passed false n f g s e = absurd (subst Sound (sym e) s)
 
--- A field that passed the second half of the order is the field of the first half, and both tests held.
+tagged-passed : (N n : ℕ) (ts : List ℕ) (f g : Field) → Sound g → tagged N n ts f ≡ g → Below N ts × (f ≡ g)
+tagged-passed N n [] f g s e = (tt, e)
+tagged-passed N n (t ∷ ts) f g s e =
+    let p = orElse-passed (ltb t N) n (tagged N (suc n) ts f) g s e in
+    let q = tagged-passed N (suc n) ts f g s (p .1) in
+    ((ltb-true t N (p .0), q .0), q .1)
+
+-- A field that passed the second half of the order is the field of the first half, and its tests held.
 pub record Passed (H : Head) (b : Moment) (f g : Field) : Type 0 where
   pub is : f ≡ g
   pub count : counted b g ≡ true
-  pub number : numbered H g ≡ true
+  pub number : sized g ≡ true
+  pub tags : Below (H .size) (fieldTags g)
 
 pub checked-passed : (H : Head) (b : Moment) (f g : Field) → Sound g → checked H b f ≡ g → Passed H b f g
 unfolding checked
-checked-passed H b f g s e = go (orElse-passed (counted b f) 7 (orElse (numbered H f) 6 f) g s e)
-  where
-    go : (counted b f ≡ true) × (orElse (numbered H f) 6 f ≡ g) → Passed H b f g
-    go (h, e′) = also (orElse-passed (numbered H f) 6 f g s e′)
-      where
-        also : (numbered H f ≡ true) × (f ≡ g) → Passed H b f g
-        also (h′, i) = record { is = i; count = rw i at h; number = rw i at h′ }
+checked-passed H b f g s e =
+    let p = orElse-passed (counted b f) 7 (orElse (sized f) 6 (tagged (H .size) 11 (fieldTags f) f)) g s e in
+    let q = orElse-passed (sized f) 6 (tagged (H .size) 11 (fieldTags f) f) g s (p .1) in
+    let t = tagged-passed (H .size) 11 (fieldTags f) f g s (q .1) in
+    let i : f ≡ g = t .1 in
+    record { is = i; count = rw i at (p .0); number = rw i at (q .0); tags = rw i at (t .0) }
 
 -- Such a field stands whole in the job.
 pub record Whole (job : List ℕ) (at : ℕ) (g : Field) : Type 0 where
@@ -118,11 +126,6 @@ read-sized (suc n) job H b at h = go (λ b′ k. read-sized n job H b′ (at + k
     go ih (item i) e = with-sized H i (readFrom n job H (after i b) (behindAt job at)) (ih (after i b) (3 + lengthAt job at))
     go ih end e = behind-sized job H (behindAt job at)
 
--- A test and nothing else.
-pub and-none : (b : Bool) → (b && true) ≡ b
-and-none true = refl
-and-none false = refl
-
 pub and-true : (a b : Bool) → (a && b) ≡ true → (a ≡ true) × (b ≡ true)
 and-true true b e = (refl, e)
 and-true false b e = let z : _≡_ {A = ℕ} 0 1 = cc in absurd (omega arith)
@@ -135,7 +138,7 @@ field-beyond job at h = rw (lt-leb (at + 3) (length job) (omega arith))
 read-beyond : (n : ℕ) (job : List ℕ) (H : Head) (b : Moment) (at : ℕ) → length job < at → readFrom n job H b at ≡ refused 3 at
 unfolding readFrom checked
 read-beyond zero job H b at h = refl
-read-beyond (suc n) job H b at h = rw (field-beyond job at h)
+read-beyond (suc n) job H b at h = let e : at + 0 ≡ at = omega arith in rw (field-beyond job at h, e)
 
 -- The fuel of reading is enough: with any two numbers of fields above what is left of the job, the same is read.
 pub read-enough : (m n : ℕ) (job : List ℕ) (H : Head) (b : Moment) (at : ℕ) → length job < at + m → length job < at + n → readFrom m job H b at ≡ readFrom n job H b at

@@ -9,19 +9,11 @@ use mathlib.Core.List.{List, [], _∷_}
 use borrow.Author.Tests.{ltb-true, leb-true}
 use lib.Dec.{eqb, ltb, leb}
 use lib.ListN.{length}
-use Rattle.job.specs.Items.{Head, unsized, headOf, itemsOf, Moment, start, after, Item, noted, posed, standsFor, tagsOf, Reading, refused, accepted, recordsOf, questionsOf}
-use Rattle.job.specs.Reading.{Field, bad, header, item, end, fieldAt, byteAt, firstKind, bodyAt, behindAt, allBelow, numbered, checked, mostRecords, mostQuestions, counted, with, behind, onward, readFrom, reading, headIn, itemsIn, first, unknown}
-use Rattle.job.specs.Standing.{Below, Few, Tagged, Stands, ends, next, Job, Met}
+use Rattle.job.specs.Items.{Head, unsized, headOf, itemsOf, Moment, start, after, Item, noted, posed, standsFor, Reading, refused, accepted, recordsOf, questionsOf}
+use Rattle.job.specs.Reading.{Field, bad, header, item, end, fieldAt, byteAt, firstKind, bodyAt, behindAt, checked, mostRecords, mostQuestions, counted, with, behind, onward, readFrom, reading, headIn, itemsIn, first, unknown}
+use Rattle.job.specs.Standing.{Few, Stands, ends, next, Job, Met}
 use Rattle.job.proofs.Items.{after-records, after-questions}
 use Rattle.job.proofs.Reading.{Passed, checked-passed, field-whole, field-passed, header-first, and-true}
-
--- Numbers that were tested are tags below N.
-below-tested : (N : ℕ) (ts : List ℕ) → allBelow N ts ≡ true → Below N ts
-below-tested N [] e = tt
-below-tested N (t ∷ ts) e = let p = and-true (ltb t N) (allBelow N ts) e in (ltb-true t N (p .0), below-tested N ts (p .1))
-
-numbered-tags : (H : Head) (i : Item) → numbered H (item i) ≡ true → Tagged (H .size) i
-numbered-tags H i = below-tested (H .size) (tagsOf i)
 
 -- What is read behind the first field, where it is accepted.
 record Rest (job : List ℕ) (H : Head) (b : Moment) (at : ℕ) (M : Head) (items : List Item) : Type 0 where
@@ -80,7 +72,7 @@ module _ (job : List ℕ) (H : Head) where
           rw (s .first)
           (record {
             size = v .size;
-            stands = next (p .is) (numbered-tags H i (p .number)) (field-whole job at (item i) tt (p .is)) (v .stands);
+            stands = next (p .is) (p .tags) (field-whole job at (item i) tt (p .is)) (v .stands);
             records = rw (after-records b i (s .others)) at (v .records);
             questions = rw (after-questions b i (s .others)) at (v .questions);
           })
@@ -107,7 +99,7 @@ no-end-first : (job : List ℕ) → fieldAt job 0 ≡ end → ⊥
 no-end-first job e = first-body job 3 (byteAt job 0) (field-passed job 0 end tt e .is)
 
 -- No item stands at 0.
-no-item-first : (job : List ℕ) (i : Item) → fieldAt job 0 ≡ item i → ⊥
+pub no-item-first : (job : List ℕ) (i : Item) → fieldAt job 0 ≡ item i → ⊥
 no-item-first job i e = go (eqb (byteAt job 0) 16) (field-passed job 0 (item i) tt e .is)
   where
     go : (c : Bool) → bodyAt job 3 (cond c first unknown) ≡ item i → ⊥

@@ -1,11 +1,11 @@
--- What the enums of the code say in document 01's words: the number of each refusal, a kind and a field.
+-- What the enums of the code say in the documents' words: the number of each refusal, a kind and a field.
 -- Assumes nothing.
 use Prim.Native.Nat.{ℕ}
 use Rattle.meaning.specs.Following.{eq, app}
 use Rattle.job.specs.Items.{Note, line, Question, noted, posed, ask, explain}
 use Rattle.job.specs.Reading.{Kind, first, record-eq, record-app, question-ask, question-explain, last, unknown, Field, bad, header, item, end}
 use Rattle.job.specs.declared.Fault.{Fault}
-use Rattle.job.specs.declared.Fault.the-variants.{Cut, Misplaced, Misfit, OutOfRange, TooMany, Trailing}
+use Rattle.job.specs.declared.Fault.the-variants.{Cut, Misplaced, Misfit, OutOfRange, TooMany, Trailing, FirstTag, SecondTag, ThirdTag}
 use Rattle.job.specs.declared.Kind.{Kind as KindCode}
 use Rattle.job.specs.declared.Kind.the-variants as k
 use Rattle.job.specs.declared.Line.{Line}
@@ -15,7 +15,7 @@ use Rattle.job.specs.declared.Query.the-variants.{Ask, Explain}
 use Rattle.job.specs.declared.Field.{Field as FieldCode}
 use Rattle.job.specs.declared.Field.the-variants.{Bad, Header, Noted, Posed, End}
 
--- The refusals of reading by document 01's numbers.
+-- The refusals of reading by the numbers of documents 01 and 02.
 abbrev pub numberOf : Fault → ℕ
 numberOf Cut = 3
 numberOf Misplaced = 4
@@ -23,6 +23,9 @@ numberOf Misfit = 5
 numberOf OutOfRange = 6
 numberOf TooMany = 7
 numberOf Trailing = 8
+numberOf FirstTag = 11
+numberOf SecondTag = 12
+numberOf ThirdTag = 13
 
 abbrev pub kindOf : KindCode → Kind
 kindOf k.First = first

@@ -1,5 +1,5 @@
 -- Document 01, "The job and the report" and "What is lent, and each refusal": the job is read front to back, one field at a time,
--- and every byte string is accepted or refused by number and place.
+-- and every byte string is accepted or refused by number and place. Document 02, No. 2: which number was wrong.
 -- Assumes nothing.
 use Prim.Native.Nat.{ℕ, zero, suc, _+_, _*_}
 use mathlib.Core.Bool.{Bool, true, false, cond, _&&_}
@@ -115,23 +115,35 @@ counted b (item (noted n)) = leb (b .records + length (standsFor n)) mostRecords
 counted b (item (posed q)) = ltb (b .questions) mostQuestions
 counted b end = true
 
--- N is from 1 to 1,000, and a tag is below N.
-abbrev pub allBelow : ℕ → List ℕ → Bool
-allBelow N [] = true
-allBelow N (t ∷ ts) = ltb t N && allBelow N ts
-
+-- N is from 1 to 1,000.
 abbrev pub sizeRight : Head → Bool
 sizeRight M = ltb 0 (M .size) && leb (M .size) 1000
 
-abbrev pub numbered : Head → Field → Bool
-numbered H (bad n) = true
-numbered H (header M) = sizeRight M
-numbered H (item i) = allBelow (H .size) (tagsOf i)
-numbered H end = true
+abbrev pub sized : Field → Bool
+sized (bad n) = true
+sized (header M) = sizeRight M
+sized (item i) = true
+sized end = true
 
--- The second half of the order: count limit (7); N or tag numbers (6).
+-- The tags of a field, in the order of its body.
+abbrev pub fieldTags : Field → List ℕ
+fieldTags (bad n) = []
+fieldTags (header M) = []
+fieldTags (item i) = tagsOf i
+fieldTags end = []
+
+-- "A tag of N or more gets its own number. If several are wrong the first is told": a number for the first tag, the next one for the second, and so on.
+abbrev pub tagged : ℕ → ℕ → List ℕ → Field → Field
+tagged N n [] f = f
+tagged N n (t ∷ ts) f = orElse (ltb t N) n (tagged N (suc n) ts f)
+
+-- The second half of the order: count limit (7); N (6); "11, 12, 13 for first, second and third tag, in 6's place in the order".
 unfoldable pub checked : Head → Moment → Field → Field
-checked H b f = orElse (counted b f) 7 (orElse (numbered H f) 6 f)
+checked H b f = orElse (counted b f) 7 (orElse (sized f) 6 (tagged (H .size) 11 (fieldTags f) f))
+
+-- "Its place is that number's first byte": how far behind the field's first byte the place of a refusal is.
+abbrev pub offsetOf : ℕ → ℕ
+offsetOf n = cond (eqb n 11) 3 (cond (eqb n 12) 5 (cond (eqb n 13) 7 0))
 
 -- What is read behind an item, with the item before it.
 abbrev pub with : Item → Reading → Reading
@@ -142,10 +154,10 @@ with i (accepted H is) = accepted H (i ∷ is)
 abbrev pub behind : List ℕ → Head → ℕ → Reading
 behind job H at = cond (leb (length job) at) (accepted H []) (refused 8 at)
 
--- What a field at a place leads to, with what the first field said and the moment before it: a refusal has the field's first byte for
--- its place; from the others reading goes on behind the field.
+-- What a field at a place leads to, with what the first field said and the moment before it: a refusal has its place in the field;
+-- from the others reading goes on behind the field.
 abbrev pub onward : (Head → Moment → ℕ → Reading) → List ℕ → Head → Moment → ℕ → Field → Reading
-onward read job H b at (bad n) = refused n at
+onward read job H b at (bad n) = refused n (at + offsetOf n)
 onward read job H b at (header M) = read M b (behindAt job at)
 onward read job H b at (item i) = with i (read H (after i b) (behindAt job at))
 onward read job H b at end = behind job H (behindAt job at)

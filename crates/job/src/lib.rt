@@ -1,15 +1,15 @@
 // The fields of a job: what its bytes say at a place. Document 01, "The job and the report" and "What is lent, and each
-// refusal". The field reader below is the only place on this side that makes a tag out of bytes; what limits a field is
+// refusal"; document 02, No. 2. The field reader below is the only place on this side that makes a tag out of bytes; what limits a field is
 // tested in limits. Rests on meaning.
 ghost use mathlib.Core.Path.{_≡_};
 ghost use Prim.Native.Nat.{_+_, _≤_};
 ghost use lib.ListN.{length};
-ghost use Rattle.job.specs.Reading.{byteAt, numberAt, kindAt, laterKind, known, bodyLength, says, bodyAt, behindAt, ofKind, fieldAt};
+ghost use Rattle.job.specs.Reading.{byteAt, numberAt, kindAt, laterKind, known, bodyLength, says, bodyAt, behindAt, ofKind, fieldAt, offsetOf};
 ghost use Rattle.job.specs.Answer.{numberOf, kindOf, noteSaid, said};
 ghost use Rattle.job.specs.Items.{standsFor};
 use meaning::Tag;
 
-// Why a job is refused, in the order of document 01's numbers, 3 to 8.
+// Why a job is refused, in the order of the documents' numbers, 3 to 8 and 11 to 13.
 pub enum Fault {
     // The job ends inside a field or before the end field.
     Cut,
@@ -17,15 +17,19 @@ pub enum Fault {
     Misplaced,
     // A wrong length for the kind.
     Misfit,
-    // N is 0 or above 1,000, or a tag is N or more.
+    // N is 0 or above 1,000.
     OutOfRange,
     // The 4,001st record or the 1,001st question.
     TooMany,
     // A byte after the end field.
     Trailing,
+    // The first, the second or the third tag of a field is N or more.
+    FirstTag,
+    SecondTag,
+    ThirdTag,
 }
 
-// The number that document 01 gives a refusal.
+// The number that the documents give a refusal.
 pub fn number_of(fault: Fault) -> u8
     ensures { λ r. ⌜ r ≡ numberOf fault ⌝ }
 {
@@ -36,6 +40,26 @@ pub fn number_of(fault: Fault) -> u8
         Fault::OutOfRange => 6,
         Fault::TooMany => 7,
         Fault::Trailing => 8,
+        Fault::FirstTag => 11,
+        Fault::SecondTag => 12,
+        Fault::ThirdTag => 13,
+    }
+}
+
+// How far behind a field's first byte its refusal has its place: at the tag itself, where one is at fault.
+pub fn offset_of(fault: Fault) -> usize
+    ensures { λ r. ⌜ (r ≡ offsetOf (numberOf fault)) × (r ≤ 7) ⌝ }
+{
+    match fault {
+        Fault::Cut => 0,
+        Fault::Misplaced => 0,
+        Fault::Misfit => 0,
+        Fault::OutOfRange => 0,
+        Fault::TooMany => 0,
+        Fault::Trailing => 0,
+        Fault::FirstTag => 3,
+        Fault::SecondTag => 5,
+        Fault::ThirdTag => 7,
     }
 }
 

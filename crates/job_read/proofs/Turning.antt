@@ -8,7 +8,7 @@ use borrow.Author.Tests.{leb-true}
 use lib.Dec.{ltb, leb}
 use lib.ListN.{length}
 use Rattle.job.specs.Items.{Head, Note, Moment, start, after, Question, ask, explain, noted, posed, roomOf, Reading, refused, accepted, recordsOf, questionsOf, neededRoom}
-use Rattle.job.specs.Reading.{Field, bad, header, item, end, behindAt, fieldAt, checked, with, behind, onward, readFrom, reading}
+use Rattle.job.specs.Reading.{Field, bad, header, item, end, offsetOf, behindAt, fieldAt, checked, with, behind, onward, readFrom, reading}
 use Rattle.job.proofs.Items.{after-records, after-questions}
 use Rattle.job.proofs.Reading.{Sound, Passed, checked-passed, field-whole, Sized, read-sized, and-true}
 use Rattle.job.specs.Standing.{Few}
@@ -52,7 +52,7 @@ unfolding readFrom
 step job s g e fuel = rw e
 
 module _ (job : List ℕ) (s : Seen) (h : Going job s) where
-  pub done-bad : (n : ℕ) (r : Answer) → Next job s (bad n) → told r ≡ refusal n (s .at) → Turned job s (Done r)
+  pub done-bad : (n : ℕ) (r : Answer) → Next job s (bad n) → told r ≡ refusal n (s .at + offsetOf n) → Turned job s (Done r)
   done-bad n r e i = done (λ fuel. step job s (bad n) e fuel ∙ sym i)
 
   pub done-end : (r : Answer) → Next job s end → told r ≡ tally (momentOf (s .counts)) (s .room) (behind job (headSeen s) (behindAt job (s .at))) → Turned job s (Done r)

@@ -1,5 +1,5 @@
-// A whole job read: it is accepted, or refused by number and place. Document 01, "What is lent, and each refusal", numbers 3 to 8. Its fields come
-// from the reader in job, and limits tests each. Rests on job and limits.
+// A whole job read: it is accepted, or refused by number and place. Document 01, "What is lent, and each refusal", numbers 3 to 8, and document 02, No. 2,
+// numbers 11 to 13. Its fields come from the reader in job, and limits tests each. Rests on job and limits.
 ghost use mathlib.Core.Path.{_≡_};
 ghost use Prim.Native.Nat.{_+_, _*_, _-_, _≤_, _<_, min};
 ghost use lib.ListN.{length};
@@ -13,6 +13,7 @@ use job::Fault;
 use job::Field;
 use job::Query;
 use job::behind;
+use job::offset_of;
 use job::read;
 use limits::Counts;
 use limits::allowed;
@@ -117,7 +118,10 @@ fn advance(job: &[u8], s: Seen) -> Turn
     let next = behind(job, at);
     let field = allowed(s.size, counts, read(job, at));
     match field {
-        Field::Bad(fault) => Turn::Done(Answer::Refused { fault, place: at }),
+        Field::Bad(fault) => Turn::Done(Answer::Refused {
+            fault,
+            place: at + offset_of(fault),
+        }),
         Field::Header(n) => Turn::On(Seen {
             at: next,
             size: n,
@@ -140,7 +144,7 @@ fn advance(job: &[u8], s: Seen) -> Turn
     }
 }
 
-// Reads a whole job. Document 01's refusals 3 to 8, or what is known of a job that is accepted.
+// Reads a whole job. The refusals 3 to 8 and 11 to 13, or what is known of a job that is accepted.
 pub fn read_job(job: &[u8]) -> Answer
     ensures { λ r. ⌜ told r ≡ summary (reading (now (job .entry))) ⌝ }
 {

@@ -3,8 +3,9 @@
 use Prim.Native.Nat.{ℕ}
 use mathlib.Core.List.{List, [], _∷_}
 use Rattle.limits.specs.declared.Tags.{Tags}
-use Rattle.limits.specs.declared.Tags.the-variants.{Two, Three}
+use Rattle.limits.specs.declared.Tags.the-variants.{None, Two, Three}
 
 abbrev pub tagsIn : Tags → List ℕ
+tagsIn None = []
 tagsIn (Two a b) = a .0 ∷ b .0 ∷ []
 tagsIn (Three a b c) = a .0 ∷ b .0 ∷ c .0 ∷ []

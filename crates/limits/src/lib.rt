@@ -1,9 +1,9 @@
-// The limits of a field: at most 4,000 records and 1,000 questions (7), N from 1 to 1,000 and tags below N (6). Document 01, "What is lent, and each
-// refusal", the second half of its order for a field. Here the tags of a job are compared with N. Rests on meaning and job.
+// The limits of a field: at most 4,000 records and 1,000 questions (7), N from 1 to 1,000 (6) and tags below N (11, 12, 13). Document 01, "What is lent,
+// and each refusal", the second half of its order for a field, and document 02, No. 2. Here the tags of a job are compared with N. Rests on meaning and job.
 ghost use mathlib.Core.Path.{_≡_};
 ghost use mathlib.Core.Bool.{_&&_};
 ghost use lib.Dec.{ltb, leb};
-ghost use Rattle.job.specs.Reading.{orElse, counted, allBelow, numbered, checked};
+ghost use Rattle.job.specs.Reading.{orElse, counted, sized, fieldTags, tagged, checked};
 ghost use Rattle.job.specs.Answer.{numberOf, noteSaid, questionSaid, said};
 ghost use Rattle.job.specs.Items.{noted, posed, after, tagsOfNote, tagsOfQuestion};
 ghost use Rattle.job.specs.Standing.{Few};
@@ -79,6 +79,7 @@ fn is_below(tag: Tag, size: u16) -> bool
 
 // The tags of a field, in the order of the job's table.
 pub enum Tags {
+    None,
     Two(Tag, Tag),
     Three(Tag, Tag, Tag),
 }
@@ -101,44 +102,28 @@ fn question_tags(q: Query) -> Tags
     }
 }
 
-fn are_below(a: Tag, b: Tag, size: u16) -> bool
-    ensures { λ r. ⌜ r ≡ (ltb (a .0) size && ltb (b .0) size) ⌝ }
+// The tags of a field: what is no note and no question has none.
+fn tags_of(field: Field) -> Tags
+    ensures { λ r. ⌜ tagsIn r ≡ fieldTags (said field) ⌝ }
 {
-    if is_below(a, size) {
-        is_below(b, size)
-    } else {
-        false
+    match field {
+        Field::Bad(_) => Tags::None,
+        Field::Header(_) => Tags::None,
+        Field::Noted(l) => note_tags(l),
+        Field::Posed(q) => question_tags(q),
+        Field::End => Tags::None,
     }
 }
 
-fn are_all_below(a: Tag, b: Tag, c: Tag, size: u16) -> bool
-    ensures { λ r. ⌜ r ≡ (ltb (a .0) size && (ltb (b .0) size && ltb (c .0) size)) ⌝ }
-{
-    if is_below(a, size) {
-        are_below(b, c, size)
-    } else {
-        false
-    }
-}
-
-fn all_below(tags: Tags, size: u16) -> bool
-    ensures { λ r. ⌜ r ≡ allBelow size (tagsIn tags) ⌝ }
-{
-    match tags {
-        Tags::Two(a, b) => are_below(a, b, size),
-        Tags::Three(a, b, c) => are_all_below(a, b, c, size),
-    }
-}
-
-// N from 1 to 1,000, and tags below N.
-fn is_numbered(size: u16, field: Field) -> bool
-    ensures { λ r. ⌜ r ≡ numbered (record { size = size }) (said field) ⌝ }
+// N from 1 to 1,000.
+fn is_sized(field: Field) -> bool
+    ensures { λ r. ⌜ r ≡ sized (said field) ⌝ }
 {
     match field {
         Field::Bad(_) => true,
         Field::Header(n) => is_size(n),
-        Field::Noted(l) => all_below(note_tags(l), size),
-        Field::Posed(q) => all_below(question_tags(q), size),
+        Field::Noted(_) => true,
+        Field::Posed(_) => true,
         Field::End => true,
     }
 }
@@ -150,11 +135,41 @@ fn or_else(holds: bool, fault: Fault, field: Field) -> Field
     if holds { field } else { Field::Bad(fault) }
 }
 
-// A field with its count limit and its numbers tested, in this order.
+// A field with its first two tags tested one after the other, and with its third: the first that is N or more is told.
+fn two_tested(size: u16, a: Tag, b: Tag, field: Field) -> Field
+    ensures { λ r. ⌜ said r ≡ orElse (ltb (a .0) size) 11 (orElse (ltb (b .0) size) 12 (said field)) ⌝ }
+{
+    let first = is_below(a, size);
+    let second = is_below(b, size);
+    or_else(
+        first,
+        Fault::FirstTag,
+        or_else(second, Fault::SecondTag, field),
+    )
+}
+
+fn third_tested(size: u16, c: Tag, field: Field) -> Field
+    ensures { λ r. ⌜ said r ≡ orElse (ltb (c .0) size) 13 (said field) ⌝ }
+{
+    or_else(is_below(c, size), Fault::ThirdTag, field)
+}
+
+fn tags_tested(size: u16, tags: Tags, field: Field) -> Field
+    ensures { λ r. ⌜ said r ≡ tagged size 11 (tagsIn tags) (said field) ⌝ }
+{
+    match tags {
+        Tags::None => field,
+        Tags::Two(a, b) => two_tested(size, a, b, field),
+        Tags::Three(a, b, c) => two_tested(size, a, b, third_tested(size, c, field)),
+    }
+}
+
+// A field with its count limit, N and its tags tested, in this order.
 pub fn allowed(size: u16, c: Counts, field: Field) -> Field
     ensures { λ r. ⌜ said r ≡ checked (record { size = size }) (momentOf c) (said field) ⌝ }
 {
+    let tested = tags_tested(size, tags_of(field), field);
     let few = is_counted(c, field);
-    let low = is_numbered(size, field);
-    or_else(few, Fault::TooMany, or_else(low, Fault::OutOfRange, field))
+    let low = is_sized(field);
+    or_else(few, Fault::TooMany, or_else(low, Fault::OutOfRange, tested))
 }

@@ -33,7 +33,7 @@ fn wide(x: u16) -> usize
     x as usize
 }
 
-// Numbers 3 to 8, in their order.
+// Numbers 3 to 8 and 11 to 13, in their order.
 fn view(job: &[u8]) -> Sight
     ensures { λ r. ⌜ Viewed (now (job .entry)) r ⌝ }
 {

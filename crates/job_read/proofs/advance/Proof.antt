@@ -23,6 +23,12 @@ allowed-requires c κs = search needs
 enum-known-field : tie.Need-enum-known-field
 enum-known-field c = search needs
 
+offset-of-requires : tie.Need-offset-of-requires
+offset-of-requires c κs = search needs
+
+add-t14 : tie.Need-add-t14
+add-t14 c = search needs
+
 enum-known-field-2 : tie.Need-enum-known-field-2
 enum-known-field-2 c = search needs
 
@@ -41,8 +47,8 @@ past-question-requires c κs = search needs
 room-of-requires : tie.Need-room-of-requires
 room-of-requires c κs = search needs
 
-add-t19 : tie.Need-add-t19
-add-t19 c = search needs
+add-t21 : tie.Need-add-t21
+add-t21 c = search needs
 
 enum-told : tie.Need-enum-told
 enum-told c = search needs
@@ -56,10 +62,10 @@ ended-requires c κs =
 
 returns : tie.Need-returns
 returns c =
-    let b = c .before .before .before in
+    let b = c .before .before .before .before in
     let a = b .before .before .before .before .before in
-    let e = sym (b .allowed .ensures ∙ ap (checked (headSeen (a .args .s)) (momentOf (a .args .s .counts))) (b .before .read .ensures)) ∙ ap said (c .before .field .given .1) in
-    done-bad (now (a .args .job)) (a .args .s) (a .pre) _ _ e refl
+    let e = sym (b .allowed .ensures ∙ ap (checked (headSeen (a .args .s)) (momentOf (a .args .s .counts))) (b .before .read .ensures)) ∙ ap said (c .before .before .field .given .1) in
+    done-bad (now (a .args .job)) (a .args .s) (a .pre) _ _ e (rw (c .offset-of .ensures .0))
 
 returns-2 : tie.Need-returns-2
 returns-2 c =
@@ -97,13 +103,15 @@ advance-spec =
     read-requires
     allowed-requires
     enum-known-field
+    offset-of-requires
+    add-t14
     enum-known-field-2
     enum-known-field-3
     past-note-requires
     enum-known-field-4
     past-question-requires
     room-of-requires
-    add-t19
+    add-t21
     enum-told
     ended-requires
     returns

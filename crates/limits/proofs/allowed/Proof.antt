@@ -1,4 +1,4 @@
--- `limits::allowed` meets its contract: count limit and numbers are tested in the order of `checked`.
+-- `limits::allowed` meets its contract: count limit, N and tags are tested in the order of `checked`.
 -- Assumes nothing.
 use borrow.Author.Needs.{needs}
 use Rattle.limits.proofs.allowed.Statement.{statement}
@@ -6,11 +6,17 @@ use Rattle.limits.proofs.allowed.Tie as tie
 use Rattle.job.specs.Reading.{orElse, checked}
 use mathlib.Core.Path.{ap, _∙_}
 
+tags-of-requires : tie.Need-tags-of-requires
+tags-of-requires c κs = search needs
+
+tags-tested-requires : tie.Need-tags-tested-requires
+tags-tested-requires c κs = search needs
+
 is-counted-requires : tie.Need-is-counted-requires
 is-counted-requires c κs = search needs
 
-is-numbered-requires : tie.Need-is-numbered-requires
-is-numbered-requires c κs = search needs
+is-sized-requires : tie.Need-is-sized-requires
+is-sized-requires c κs = search needs
 
 or-else-requires : tie.Need-or-else-requires
 or-else-requires c κs = search needs
@@ -21,10 +27,13 @@ or-else-requires-2 c κs = search needs
 returns : tie.Need-returns
 unfolding checked
 returns c =
-    rw (← c .before .before .before .is-counted .ensures, ← c .before .before .is-numbered .ensures)
-    (c .or-else2 .ensures ∙ ap (orElse (c .before .before .before .is-counted .result) 7) (c .before .or-else .ensures))
+    let counted = c .before .before .before .is-counted in
+    let sized = c .before .before .is-sized in
+    let tested = c .before .before .before .before .tags-tested .ensures in
+    rw (← counted .ensures, ← sized .ensures, ← c .before .before .before .before .before .tags-of .ensures)
+    (c .or-else2 .ensures ∙ ap (orElse (counted .result) 7) (c .before .or-else .ensures ∙ ap (orElse (sized .result) 6) tested))
 
 pub allowed-spec : {M : Type 1} → statement M
 allowed-spec =
     tie.close
-    (tie.spec is-counted-requires is-numbered-requires or-else-requires or-else-requires-2 returns)
+    (tie.spec tags-of-requires tags-tested-requires is-counted-requires is-sized-requires or-else-requires or-else-requires-2 returns)
