@@ -7,14 +7,14 @@ use mathlib.Core.List.{List}
 use borrow.Author.Tests.{leb-true}
 use lib.Dec.{ltb, leb}
 use lib.ListN.{length}
-use Rattle.job.specs.Items.{Head, Note, Moment, start, after, Question, ask, explain, noted, posed, roomOf, Reading, refused, accepted, recordsOf, questionsOf, neededRoom}
-use Rattle.job.specs.Reading.{Field, bad, header, item, end, offsetOf, behindAt, fieldAt, checked, with, behind, onward, readFrom, reading}
-use Rattle.job.proofs.Items.{after-records, after-questions}
-use Rattle.job.proofs.Reading.{Sound, Passed, checked-passed, field-whole, Sized, read-sized, and-true}
-use Rattle.job.specs.Standing.{Few}
-use Rattle.job.proofs.Standing.{start-few, after-few}
-use Rattle.limits.specs.Counts.{momentOf}
-use Rattle.limits.specs.declared.Counts.{Counts}
+use Rattle.job_field.specs.Items.{Head, Note, Moment, start, after, Question, ask, explain, noted, posed, roomOf, Reading, refused, accepted, recordsOf, questionsOf, neededRoom}
+use Rattle.job_field.specs.Reading.{Field, bad, header, item, end, offsetOf, behindAt, fieldAt, checked, with, behind, onward, readFrom, reading}
+use Rattle.job_field.proofs.Items.{after-records, after-questions}
+use Rattle.job_field.proofs.Reading.{Sound, Passed, checked-passed, field-whole, Sized, read-sized, and-true}
+use Rattle.job_field.specs.Standing.{Few}
+use Rattle.job_field.proofs.Standing.{start-few, after-few}
+use Rattle.job_limits.specs.Counts.{momentOf}
+use Rattle.job_limits.specs.declared.Counts.{Counts}
 use Rattle.job_read.specs.Summary.{refusal, summary, told}
 use Rattle.job_read.specs.Turns.{headSeen, tally, tallied, Going, Turned, on, done}
 use Rattle.job_read.specs.declared.Seen.{Seen}

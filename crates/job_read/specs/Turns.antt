@@ -5,10 +5,10 @@ use Prim.Native.Nat.{ℕ, suc, _+_, _*_, _≤_, _<_}
 use mathlib.Core.Path.{_≡_}
 use mathlib.Core.List.{List}
 use lib.ListN.{length}
-use Rattle.job.specs.Items.{Head, Moment, Reading, refused, accepted, recordsOf, questionsOf, neededRoom}
-use Rattle.job.specs.Reading.{readFrom}
-use Rattle.job.specs.Standing.{Few}
-use Rattle.limits.specs.Counts.{momentOf}
+use Rattle.job_field.specs.Items.{Head, Moment, Reading, refused, accepted, recordsOf, questionsOf, neededRoom}
+use Rattle.job_field.specs.Reading.{readFrom}
+use Rattle.job_field.specs.Standing.{Few}
+use Rattle.job_limits.specs.Counts.{momentOf}
 use Rattle.job_read.specs.declared.Answer.{Answer}
 use Rattle.job_read.specs.declared.Seen.{Seen}
 use Rattle.job_read.specs.declared.Turn.{Turn}

@@ -7,3 +7,4 @@ pub mod Totals
 pub mod Cases
 pub mod Forest
 pub mod Walk
+pub mod Needed

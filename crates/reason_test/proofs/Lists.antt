@@ -18,15 +18,15 @@ use Rattle.meaning.proofs.Rising.{take-out, rising-short}
 use Rattle.meaning.proofs.Short.{decAmong}
 use Rattle.table.specs.Map.{listOf, listIn, recordsIn, gather, Within}
 use Rattle.table.proofs.Frame.{seen-in, seen-within, within-refl, within-trans, within-wider, within-set, length-gather, gather-same, gather-in, in-gather}
-use Rattle.closure.specs.Closing.{Listed, Entailing}
-use Rattle.listing.specs.Listing.{waitingIn}
-use Rattle.trimming.specs.Trimming.{Followed, Pruned}
-use Rattle.rising.specs.Rising.{Numbered, Sorted}
-use Rattle.listing.proofs.Gathering.{list-hit, list-miss}
-use Rattle.meeting.proofs.Kept.{kept-records, kept-loaded, kept-past}
+use Rattle.list_close.specs.Closing.{Listed, Entailing}
+use Rattle.reason_list.specs.Listing.{waitingIn}
+use Rattle.reason_trim.specs.Trimming.{Followed, Pruned}
+use Rattle.reason_order.specs.Rising.{Numbered, Sorted}
+use Rattle.reason_list.proofs.Gathering.{list-hit, list-miss}
+use Rattle.moment.proofs.Kept.{kept-records, kept-loaded, kept-past}
 use Rattle.meaning.proofs.Tests.{is-not, is-so}
-use Rattle.question.specs.declared.Question.{Question}
-use Rattle.question.specs.Posed.{Posed, Deciding}
+use Rattle.moment.specs.declared.Question.{Question}
+use Rattle.moment.specs.Posed.{Posed, Deciding}
 use Rattle.reason_test.specs.Lists.{Swap, Swapped, Arranged, Moved, Named, Serving, Entailed, NoneSpare, Sufficient}
 
 -- Exchanging.

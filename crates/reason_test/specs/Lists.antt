@@ -8,10 +8,10 @@ use lib.ListN.{length}
 use Rattle.meaning.specs.Following.{Rec, Follows, Only, Without}
 use Rattle.meaning.specs.Reasons.{Above}
 use Rattle.table.specs.Map.{listOf, listIn, recordsIn, Within}
-use Rattle.closure.specs.Closing.{Listed}
-use Rattle.listing.specs.Listing.{waitingIn}
-use Rattle.question.specs.declared.Question.{Question}
-use Rattle.question.specs.Posed.{Posed}
+use Rattle.list_close.specs.Closing.{Listed}
+use Rattle.reason_list.specs.Listing.{waitingIn}
+use Rattle.moment.specs.declared.Question.{Question}
+use Rattle.moment.specs.Posed.{Posed}
 
 -- Places i and j of a list were exchanged.
 pub record Swap (f g : ℕ → ℕ) (i j : ℕ) : Type 0 where

@@ -1,11 +1,11 @@
 // Whether the numbers that stand in the table's list, each once, suffice for a reason: they make s and t equal, and none of them can be
-// spared. Document 01, "Reasons". Rests on table, question, closure, trimming and rising.
+// spared. Document 01, "Reasons". Rests on table, moment, list_close, reason_trim and reason_order.
 ghost use Prim.Native.Nat.{_≤_, _<_};
 ghost use lib.ListN.{length};
-ghost use Rattle.question.specs.Posed.{Deciding};
+ghost use Rattle.moment.specs.Posed.{Deciding};
 ghost use Rattle.reason_test.specs.Lists.{Swapped, Arranged, Brought, Moved, Named, Entailed, NoneSpare, Sufficient};
 use meaning::RecordNo;
-use question::Question;
+use moment::Question;
 
 // Two places of the list exchange their numbers.
 fn swap(work: &mut [u16], i: usize, j: usize)
@@ -26,7 +26,7 @@ fn put_waiting(work: &mut [u16], count: usize)
     let mut i = 0;
     while i < count {
         let r = table::listed(work, i);
-        table::put_listed(work, listing::WAITING + i, r);
+        table::put_listed(work, reason_list::WAITING + i, r);
         i += 1;
     }
 }
@@ -37,8 +37,8 @@ fn tight(work: &mut [u16], count: usize, q: Question) -> bool
     ensures { λ r. ⌜ Deciding (NoneSpare (now (work .entry)) q count) (now (work .entry)) (now (work .exit)) r ⌝ }
 {
     put_waiting(work, count);
-    let kept = trimming::trim(work, q.size, q.len, count, q.s, q.t);
-    rising::put_rising(work, q.len, kept) == count
+    let kept = reason_trim::trim(work, q.size, q.len, count, q.s, q.t);
+    reason_order::put_rising(work, q.len, kept) == count
 }
 
 // Whether the list makes s and t equal, and none of its numbers can be spared.
@@ -46,7 +46,7 @@ fn suffices(work: &mut [u16], count: usize, q: Question) -> bool
     requires { ⌜ Named (now work) q count ⌝ }
     ensures { λ r. ⌜ Deciding (Sufficient (now (work .entry)) q count) (now (work .entry)) (now (work .exit)) r ⌝ }
 {
-    if closure::entails(work, q.size, q.len, count, q.s, q.t) {
+    if list_close::entails(work, q.size, q.len, count, q.s, q.t) {
         tight(work, count, q)
     } else {
         false
