@@ -10,10 +10,12 @@ use mathlib.Core.List.{List, List·Memᴰ·eq-of-singleton}
 use lib.ListN.{length, set, length-set}
 use Rattle.meaning.specs.Joins.{put, equation}
 use Rattle.meaning.proofs.Log.{put-miss}
+use Rattle.meaning.specs.Limits.{mostRecords, mostTags}
 use Rattle.table.specs.Map.{leftOf, rightOf, labelOf, useOf, moreOf, stateOf, chainOf, waitOf, bucketOf, seen, Within}
 use Rattle.table.proofs.Frame.{seen-in, seen-out, within-trans, within-wider, within-set, gather-in, uses-least, uses-most, mores-least, mores-most}
 use Rattle.table_labels.proofs.Chain.{below}
 use Rattle.table.proofs.Kept.{lefts, rights}
+use Rattle.table.specs.Places.{BUCKETS, CHAIN, LABEL, Large, MORE, OTHER, Region, SHARES, USES, WAITS, behindColumns, behindJoins, filePart, moreAt, plain, useAt}
 use Rattle.all_index.specs.declared.Front.{Front}
 use Rattle.all_index.specs.State.{eqnAt, keyAt, Filing, Used, Queued, Indexed}
 use Rattle.all_index.proofs.Filing.{more, uses-eq, uses-app}
@@ -28,7 +30,7 @@ use Rattle.all_close.proofs.Moments.{standing-next}
 
 -- The record of place i was put into the lists of one of its arguments, x.
 pub record Stored (s : Bool) (x i p : ℕ) (w w′ : List ℕ) : Type 0 where
-  pub frame : Within 17003 32768 w w′
+  pub frame : Within behindJoins w w′
   pub label : labelOf w′ ≡ labelOf w
   pub state : stateOf w′ ≡ stateOf w
   pub bucket : bucketOf w′ ≡ bucketOf w
@@ -38,46 +40,46 @@ pub record Stored (s : Bool) (x i p : ℕ) (w w′ : List ℕ) : Type 0 where
   pub other-more : moreOf (not s) w′ ≡ moreOf (not s) w
 
 -- What the two stores lie beside: the labels, the lists of the other argument, and all that begins behind the one and ends before the other.
-beside-labels : (s : Bool) (i : ℕ) → i < 4000 → (cond s 22003 17003 + i < 21003) ⊎ (22003 ≤ cond s 22003 17003 + i)
+beside-labels : (s : Bool) (i : ℕ) → i < mostRecords → (moreAt s + i < LABEL .at) ⊎ (OTHER .at ≤ moreAt s + i)
 beside-labels true i l = inr (omega arith)
 beside-labels false i l = inl (omega arith)
 
-beside-mores : (s : Bool) (i : ℕ) → i < 4000 → (cond s 22003 17003 + i < cond (not s) 22003 17003) ⊎ (cond (not s) 22003 17003 + 4000 ≤ cond s 22003 17003 + i)
+beside-mores : (s : Bool) (i : ℕ) → i < mostRecords → (moreAt s + i < moreAt (not s)) ⊎ (moreAt (not s) + mostRecords ≤ moreAt s + i)
 beside-mores true i l = inr (omega arith)
 beside-mores false i l = inl (omega arith)
 
-beside-uses : (s : Bool) (x : ℕ) → x < 1000 → (cond s 31764 30764 + x < cond (not s) 31764 30764) ⊎ (cond (not s) 31764 30764 + 1000 ≤ cond s 31764 30764 + x)
+beside-uses : (s : Bool) (x : ℕ) → x < mostTags → (useAt s + x < useAt (not s)) ⊎ (useAt (not s) + mostTags ≤ useAt s + x)
 beside-uses true x l = inr (omega arith)
 beside-uses false x l = inl (omega arith)
 
-module _ (w : List ℕ) (long : 32768 ≤ length w) (x i p : ℕ) (small : x < 1000) (low : i < 4000) (s : Bool) where
+module _ (w : List ℕ) (long : Large w) (x i p : ℕ) (small : x < mostTags) (low : i < mostRecords) (s : Bool) where
   abbrev more-at : ℕ
-  more-at = cond s 22003 17003
+  more-at = moreAt s
 
   abbrev use-at : ℕ
-  use-at = cond s 31764 30764
+  use-at = useAt s
 
   abbrev w₁ : List ℕ
   w₁ = set w (more-at + i) p
 
-  aside : (at size : ℕ) (past : ℕ → ℕ) → (more-at + i < at) ⊎ (at + size ≤ more-at + i) → (use-at + x < at) ⊎ (at + size ≤ use-at + x) → seen at size past (set w₁ (use-at + x) (suc i)) ≡ seen at size past w
-  aside at size past h k = seen-out at size past w₁ (use-at + x) (suc i) k ∙ seen-out at size past w (more-at + i) p h
+  aside : (r : Region) → (more-at + i < r .at) ⊎ (r .at + r .size ≤ more-at + i) → (use-at + x < r .at) ⊎ (r .at + r .size ≤ use-at + x) → seen r (set w₁ (use-at + x) (suc i)) ≡ seen r w
+  aside r h k = seen-out r w₁ (use-at + x) (suc i) k ∙ seen-out r w (more-at + i) p h
 
   pub stored : (w′ : List ℕ) → w′ ≡ set (set w (more-at + i) p) (use-at + x) (i + 1) → Stored s x i p w w′
   stored w′ e =
-      let m₀ : 17003 ≤ more-at = mores-least s in
-      let m₁ : more-at ≤ 22003 = mores-most s in
-      let u₀ : 30764 ≤ use-at = uses-least s in
-      let u₁ : use-at ≤ 31764 = uses-most s in
+      let m₀ : (MORE .at) ≤ more-at = mores-least s in
+      let m₁ : more-at ≤ (OTHER .at) = mores-most s in
+      let u₀ : (USES .at) ≤ use-at = uses-least s in
+      let u₁ : use-at ≤ (SHARES .at) = uses-most s in
       rw (e, add-one) (record {
-        frame = within-trans (within-set 17003 32768 w (more-at + i) p (omega arith) (omega arith)) (within-set 17003 32768 w₁ (use-at + x) (suc i) (omega arith) (omega arith));
-        label = aside 21003 1000 (λ x. x) (beside-labels s i low) (inr (omega arith));
-        state = aside 26003 4000 (λ x. 0) (inl (omega arith)) (inr (omega arith));
-        bucket = aside 30003 761 (λ x. 0) (inl (omega arith)) (inr (omega arith));
-        use′ = seen-in use-at 1000 (λ x. 0) w₁ x (suc i) small (omega (arith, length-set w (more-at + i) p)) ∙ ap (put x (suc i)) (seen-out use-at 1000 (λ x. 0) w (more-at + i) p (inl (omega arith)));
-        more′ = seen-out more-at 4000 (λ x. 0) w₁ (use-at + x) (suc i) (inr (omega arith)) ∙ seen-in more-at 4000 (λ x. 0) w i p low (omega arith);
-        other-use = aside (cond (not s) 31764 30764) 1000 (λ x. 0) (inl (omega (arith, uses-least (not s)))) (beside-uses s x small);
-        other-more = aside (cond (not s) 22003 17003) 4000 (λ x. 0) (beside-mores s i low) (inr (omega (arith, mores-most (not s))));
+        frame = within-trans (within-set behindJoins w (more-at + i) p (omega arith) (omega arith)) (within-set behindJoins w₁ (use-at + x) (suc i) (omega arith) (omega arith));
+        label = aside LABEL (beside-labels s i low) (inr (omega arith));
+        state = aside CHAIN (inl (omega arith)) (inr (omega arith));
+        bucket = aside BUCKETS (inl (omega arith)) (inr (omega arith));
+        use′ = seen-in (plain use-at mostTags) w₁ x (suc i) small (omega (arith, length-set w (more-at + i) p)) ∙ ap (put x (suc i)) (seen-out (plain use-at mostTags) w (more-at + i) p (inl (omega arith)));
+        more′ = seen-out (plain more-at mostRecords) w₁ (use-at + x) (suc i) (inr (omega arith)) ∙ seen-in (plain more-at mostRecords) w i p low (omega arith);
+        other-use = aside (plain (useAt (not s)) mostTags) (inl (omega (arith, uses-least (not s)))) (beside-uses s x small);
+        other-more = aside (plain (moreAt (not s)) mostRecords) (beside-mores s i low) (inr (omega (arith, mores-most (not s))));
       })
 
   -- The same, of the tag and the link as they were found.
@@ -85,14 +87,14 @@ module _ (w : List ℕ) (long : 32768 ≤ length w) (x i p : ℕ) (small : x < 1
   stored-as w′ a q ea eq e = stored w′ (rw (eq, ea) at e)
 
 -- The place of a record that comes in.
-pub next-low : {N len i : ℕ} {w : List ℕ} {n : ℕ} → Between N len i w n → i < len → i < 4000
+pub next-low : {N len i : ℕ} {w : List ℕ} {n : ℕ} → Between N len i w n → i < len → i < mostRecords
 next-low b low = omega (arith, b .standing .loaded .most)
 
 -- .. and its tags.
-pub next-left : {N len i : ℕ} {w : List ℕ} {n : ℕ} → Between N len i w n → i < len → leftOf w (suc i) < 1000
+pub next-left : {N len i : ℕ} {w : List ℕ} {n : ℕ} → Between N len i w n → i < len → leftOf w (suc i) < mostTags
 next-left {i = i} b low = omega (arith, row-left (b .standing .loaded) i low, b .standing .loaded .few)
 
-pub next-right : {N len i : ℕ} {w : List ℕ} {n : ℕ} → Between N len i w n → i < len → rightOf w (suc i) < 1000
+pub next-right : {N len i : ℕ} {w : List ℕ} {n : ℕ} → Between N len i w n → i < len → rightOf w (suc i) < mostTags
 next-right {i = i} b low = omega (arith, row-right (b .standing .loaded) i low, b .standing .loaded .few)
 
 -- It is counted.
@@ -105,24 +107,24 @@ open-from e o = rw e o
 
 -- An application comes in.
 module _ {N len i : ℕ} {w : List ℕ} {n : ℕ} (b : Between N len i w n) (low : i < len) (app : eqnAt w i ≡ false) where
-  most : i < 4000
+  most : i < mostRecords
   most = next-low b low
 
-  pub entered : {w₁ w₂ w₃ : List ℕ} → Stored false (leftOf w (suc i)) i (useOf false w (leftOf w (suc i))) w w₁ → Stored true (rightOf w (suc i)) i (useOf true w₁ (rightOf w (suc i))) w₁ w₂ → w₃ ≡ set w₂ (26003 + i) (0 + 4002)
-      → Within 12003 32768 w w₃ × Open (front N len (suc i)) w₃ n (suc i)
+  pub entered : {w₁ w₂ w₃ : List ℕ} → Stored false (leftOf w (suc i)) i (useOf false w (leftOf w (suc i))) w w₁ → Stored true (rightOf w (suc i)) i (useOf true w₁ (rightOf w (suc i))) w₁ w₂ → w₃ ≡ set w₂ (CHAIN .at + i) (0 + WAITS)
+      → Within behindColumns w w₃ × Open (front N len (suc i)) w₃ n (suc i)
   entered {w₁} {w₂} {w₃} s t e = (frame, record { standing = standing; indexed = record { filing = filing; queue = queue; uses = used }; level = level })
     where
-      long : 32768 ≤ length w₂
+      long : Large w₂
       long = omega (arith, b .standing .loaded .long, s .frame .size, t .frame .size)
 
-      last : Within 26003 30764 w₂ w₃
-      last = store-frame w₂ w₃ i (0 + 4002) long most e
+      last : Within filePart w₂ w₃
+      last = store-frame w₂ w₃ i (0 + WAITS) long most e
 
-      narrow : Within 17003 32768 w w₃
-      narrow = within-trans (within-trans (s .frame) (t .frame)) (within-wider 17003 32768 (omega arith) (omega arith) last)
+      narrow : Within behindJoins w w₃
+      narrow = within-trans (within-trans (s .frame) (t .frame)) (within-wider behindJoins (omega arith) (omega arith) last)
 
-      frame : Within 12003 32768 w w₃
-      frame = within-wider 12003 32768 (omega arith) (omega arith) narrow
+      frame : Within behindColumns w w₃
+      frame = within-wider behindColumns (omega arith) (omega arith) narrow
 
       label : labelOf w₃ ≡ labelOf w
       label = labels last ∙ t .label ∙ s .label
@@ -137,7 +139,7 @@ module _ {N len i : ℕ} {w : List ℕ} {n : ℕ} (b : Between N len i w n) (low
       waits = wait-waits w₂ w₃ i 0 long most e ∙ ap (put i 0) (fun-ext (λ r. rw state))
 
       buckets : bucketOf w₃ ≡ bucketOf w
-      buckets = store-buckets w₂ w₃ i (0 + 4002) long most e ∙ t .bucket ∙ s .bucket
+      buckets = store-buckets w₂ w₃ i (0 + WAITS) long most e ∙ t .bucket ∙ s .bucket
 
       standing : Standing (front N len (suc i)) w₃ n
       standing = standing-same narrow label (standing-next b low)
@@ -171,19 +173,19 @@ equate-due {i = i} s x l q a b ea eb d = record {
   ends = inl (sym ea, sym eb);
 }
 
-halves : (x a b : ℕ) → x ≡ a * 65536 + b → a < 1000 → b < 1000 → (x / 65536 ≡ a) × (x % 65536 ≡ b) × (x / 65536 < 65536)
+halves : (x a b : ℕ) → x ≡ a * 65536 + b → a < mostTags → b < mostTags → (x / 65536 ≡ a) × (x % 65536 ≡ b) × (x / 65536 < 65536)
 halves x a b e l k = (omega arith, omega arith, omega arith)
 
 -- An equation comes in.
-module _ {N len i : ℕ} {w : List ℕ} {n : ℕ} (b : Between N len i w n) (low : i < len) (eqn : eqnAt w i ≡ true) (w′ : List ℕ) (e : w′ ≡ set w (26003 + i) (0 + 1)) where
-  most-eqn : i < 4000
+module _ {N len i : ℕ} {w : List ℕ} {n : ℕ} (b : Between N len i w n) (low : i < len) (eqn : eqnAt w i ≡ true) (w′ : List ℕ) (e : w′ ≡ set w (CHAIN .at + i) (0 + 1)) where
+  most-eqn : i < mostRecords
   most-eqn = next-low b low
 
-  pub equate-chain : Within 26003 30764 w w′
+  pub equate-chain : Within filePart w w′
   equate-chain = store-frame w w′ i (0 + 1) (b .standing .loaded .long) most-eqn e
 
-  narrow : Within 17003 32768 w w′
-  narrow = within-wider 17003 32768 (omega arith) (omega arith) equate-chain
+  narrow : Within behindJoins w w′
+  narrow = within-wider behindJoins (omega arith) (omega arith) equate-chain
 
   pub equate-standing : Standing (front N len (suc i)) w′ n
   equate-standing = standing-same narrow (labels equate-chain) (standing-next b low)
@@ -192,8 +194,8 @@ module _ {N len i : ℕ} {w : List ℕ} {n : ℕ} (b : Between N len i w n) (low
   pub equate-key : (x : ℕ) → x ≡ keyAt w′ i → (x / 65536 ≡ labelOf w′ (leftOf w′ (suc i))) × (x % 65536 ≡ labelOf w′ (rightOf w′ (suc i))) × (x / 65536 < 65536)
   equate-key x e =
       let s = equate-standing in
-      let a : labelOf w′ (leftOf w′ (suc i)) < 1000 = omega (arith, s .marks .low (leftOf w′ (suc i)) (row-left (s .loaded) i low), s .loaded .few) in
-      let b : labelOf w′ (rightOf w′ (suc i)) < 1000 = omega (arith, s .marks .low (rightOf w′ (suc i)) (row-right (s .loaded) i low), s .loaded .few) in
+      let a : labelOf w′ (leftOf w′ (suc i)) < mostTags = omega (arith, s .marks .low (leftOf w′ (suc i)) (row-left (s .loaded) i low), s .loaded .few) in
+      let b : labelOf w′ (rightOf w′ (suc i)) < mostTags = omega (arith, s .marks .low (rightOf w′ (suc i)) (row-right (s .loaded) i low), s .loaded .few) in
       halves x (labelOf w′ (leftOf w′ (suc i))) (labelOf w′ (rightOf w′ (suc i))) e a b
 
   chains : chainOf w′ ≡ put i 1 (chainOf w)
@@ -233,7 +235,7 @@ module _ {N len i : ℕ} {w : List ℕ} {n : ℕ} (b : Between N len i w n) (low
   equate-joining m k x y em ek ex ey d = rw (em, ek) (equate-due equate-standing equate-indexed low same-eqn x y ex ey d)
 
   pub equate-joined : {m x y first : ℕ} {w″ : List ℕ} → m ≡ suc i → x ≡ labelOf w′ (leftOf w′ (suc i)) → y ≡ labelOf w′ (rightOf w′ (suc i)) → Joined (front N len m) w′ n x y w″ first
-      → Within 12003 32768 w w″ × Open (front N len (suc i)) w″ (n + 1) first × (n ≤ n + 1)
+      → Within behindColumns w w″ × Open (front N len (suc i)) w″ (n + 1) first × (n ≤ n + 1)
   equate-joined {m} {x} {y} {first} {w″} em p q J₀ = let J : Joined (front N len (suc i)) w′ n x y w″ first = rw em at J₀ in (
     within-trans (wide equate-chain) (J .frame),
     rw add-one (record {
@@ -246,5 +248,5 @@ module _ {N len i : ℕ} {w : List ℕ} {n : ℕ} (b : Between N len i w n) (low
   )
 
 -- A record is in, and none waits any more.
-pub admitted : {N len i n n′ n″ : ℕ} {w w′ w″ : List ℕ} → Within 12003 32768 w w′ → n ≤ n′ → Within 12003 32768 w′ w″ → Open (front N len (i + 1)) w″ n″ 0 → n′ ≤ n″ → Admitted N len i w n w″ n″
+pub admitted : {N len i n n′ n″ : ℕ} {w w′ w″ : List ℕ} → Within behindColumns w w′ → n ≤ n′ → Within behindColumns w′ w″ → Open (front N len (i + 1)) w″ n″ 0 → n′ ≤ n″ → Admitted N len i w n w″ n″
 admitted f a g o b = record { frame = within-trans f g; between = rw add-one at o; more = omega (arith, a, b) }

@@ -21,6 +21,7 @@ use Rattle.meaning.proofs.Close.{more-of, Closed, closed-by}
 use Rattle.meaning.proofs.Forest.{root-stop, history-start}
 use Rattle.meaning.proofs.Short.{some-class}
 use Rattle.meaning.proofs.Exact.{Settled, settled-classes, idle-iff}
+use Rattle.meaning.specs.Limits.{mostRecords, mostTags, namedNumbers}
 use Rattle.table.specs.Map.{leftOf, rightOf, resultOf, parentOf, ageOf, whenOf, labelOf, useOf, seen, joinAt, recAt, recordsIn, Loaded, Within}
 use Rattle.table.proofs.Frame.{seen-at, seen-past, seen-within, within-trans, within-wider, length-gather, gather-in, in-gather}
 use Rattle.table_labels.specs.Parts.{Fills, CountsUp, Fresh}
@@ -35,6 +36,7 @@ use Rattle.all_join.specs.State.{upTo, Logged, Marked, leadOf, Standing}
 use Rattle.all_join.proofs.Joining.{leaders}
 use Rattle.all_settle.specs.State.{Open}
 use Rattle.table.specs.Past.{ageAfter, leaderAfter}
+use Rattle.table.specs.Places.{AGE, BUCKETS, CHAIN, LABEL, Large, PARENT, SHARES, USES, allOf, behindColumns, bucketCount, forestPart, indexPart, plain}
 use Rattle.all_close.specs.Closing.{Closing}
 use Rattle.all_close.specs.State.{front, Between, Admitted, Begun, Unlinked}
 
@@ -130,47 +132,47 @@ standing-next {N} {len} {i} {w} {n} b low = record {
 }
 
 -- The ages are lent, and come back filled.
-pub unlinked : (w w′ v : List ℕ) → 32768 ≤ length w → length v ≡ length (take 1000 (drop 13003 w)) → w′ ≡ take 13003 w ++ (v ++ drop 1000 (drop 13003 w)) → Fills v 1000 → Unlinked w w′
-unlinked w w′ v long s e h = record { frame = lent-within 13003 1000 w w′ v (omega arith) s e; ages = λ x. go x (decLt x 1000) }
+pub unlinked : (w w′ v : List ℕ) → Large w → length v ≡ length (take mostTags (drop (AGE .at) w)) → w′ ≡ take (AGE .at) w ++ (v ++ drop mostTags (drop (AGE .at) w)) → Fills v mostTags → Unlinked w w′
+unlinked w w′ v long s e h = record { frame = lent-within (AGE .at) mostTags w w′ v (omega arith) s e; ages = λ x. go x (decLt x mostTags) }
   where
-    go : (x : ℕ) → Dec (x < 1000) → ageOf w′ x ≡ 1000
-    go x (yes l) = seen-at 13003 1000 (λ x. 1000) w′ x l ∙ lent-at 13003 1000 w w′ v (omega arith) s e (λ i. 1000) h x l
-    go x (no l) = seen-past 13003 1000 (λ x. 1000) w′ x (omega arith)
+    go : (x : ℕ) → Dec (x < mostTags) → ageOf w′ x ≡ mostTags
+    go x (yes l) = seen-at AGE w′ x l ∙ lent-at (AGE .at) mostTags w w′ v (omega arith) s e (λ i. mostTags) h x l
+    go x (no l) = seen-past AGE w′ x (omega arith)
 
 -- Before the first record: the part from the chains on is lent, and comes back as noughts.
-pub begun : {w a′ a b d : List ℕ} (v u′ : List ℕ) → 32768 ≤ length w → Unlinked w a′ → length u′ ≡ length (take 1000 (drop 12003 a′)) → a ≡ take 12003 a′ ++ (u′ ++ drop 1000 (drop 12003 a′)) → CountsUp u′ → Fresh a b → length v ≡ length (take 6765 (drop 26003 b)) → d ≡ take 26003 b ++ (v ++ drop 6765 (drop 26003 b)) → Fills v 0 → Begun w d
+pub begun : {w a′ a b d : List ℕ} (v u′ : List ℕ) → Large w → Unlinked w a′ → length u′ ≡ length (take mostTags (drop (PARENT .at) a′)) → a ≡ take (PARENT .at) a′ ++ (u′ ++ drop mostTags (drop (PARENT .at) a′)) → CountsUp u′ → Fresh a b → length v ≡ length (take (namedNumbers - CHAIN .at) (drop (CHAIN .at) b)) → d ≡ take (CHAIN .at) b ++ (v ++ drop (namedNumbers - CHAIN .at) (drop (CHAIN .at) b)) → Fills v 0 → Begun w d
 begun {w} {a′} {a} {b} {d} v u′ l u su eu hu f s e h = record {
-  frame = within-trans (within-wider 12003 32768 (omega arith) (omega arith) (within-trans (within-wider 12003 14003 (omega arith) (omega arith) (u .frame)) (within-wider 12003 14003 (omega arith) (omega arith) first))) (within-trans (within-wider 12003 32768 (omega arith) (omega arith) (f .frame)) (within-wider 12003 32768 (omega arith) (omega arith) part));
-  ages = λ x. rw (seen-within 13003 1000 (λ x. 1000) part (inl (omega arith)), seen-within 13003 1000 (λ x. 1000) (f .frame) (inl (omega arith)), seen-within 13003 1000 (λ x. 1000) first (inr (omega arith))) (u .ages x);
-  tops = λ x. rw (seen-within 12003 1000 (λ x. x) part (inl (omega arith)), seen-within 12003 1000 (λ x. x) (f .frame) (inl (omega arith))) (tops x (decLt x 1000));
-  labels = λ x. rw (seen-within 21003 1000 (λ x. x) part (inl (omega arith))) (f .labels x);
-  chains = λ r. rw (nought 26003 4000 (omega arith) (omega arith) r);
-  buckets = nought 30003 761 (omega arith) (omega arith);
+  frame = within-trans (within-wider behindColumns (omega arith) (omega arith) (within-trans (within-wider forestPart (omega arith) (omega arith) (u .frame)) (within-wider forestPart (omega arith) (omega arith) first))) (within-trans (within-wider behindColumns (omega arith) (omega arith) (f .frame)) (within-wider behindColumns (omega arith) (omega arith) part));
+  ages = λ x. rw (seen-within AGE part (inl (omega arith)), seen-within AGE (f .frame) (inl (omega arith)), seen-within AGE first (inr (omega arith))) (u .ages x);
+  tops = λ x. rw (seen-within PARENT part (inl (omega arith)), seen-within PARENT (f .frame) (inl (omega arith))) (tops x (decLt x mostTags));
+  labels = λ x. rw (seen-within LABEL part (inl (omega arith))) (f .labels x);
+  chains = λ r. rw (nought (CHAIN .at) mostRecords (omega arith) (omega arith) r);
+  buckets = nought (BUCKETS .at) bucketCount (omega arith) (omega arith);
   uses = uses;
 }
   where
-    first : Within 12003 13003 a′ a
-    first = lent-within 12003 1000 a′ a u′ (omega (arith, l, u .frame .size)) su eu
+    first : Within (allOf PARENT) a′ a
+    first = lent-within (PARENT .at) mostTags a′ a u′ (omega (arith, l, u .frame .size)) su eu
 
-    tops : (x : ℕ) → Dec (x < 1000) → parentOf a x ≡ x
-    tops x (yes k) = seen-at 12003 1000 (λ x. x) a x k ∙ lent-at 12003 1000 a′ a u′ (omega (arith, l, u .frame .size)) su eu (λ i. i) hu x k
-    tops x (no k) = seen-past 12003 1000 (λ x. x) a x (omega arith)
+    tops : (x : ℕ) → Dec (x < mostTags) → parentOf a x ≡ x
+    tops x (yes k) = seen-at PARENT a x k ∙ lent-at (PARENT .at) mostTags a′ a u′ (omega (arith, l, u .frame .size)) su eu (λ i. i) hu x k
+    tops x (no k) = seen-past PARENT a x (omega arith)
 
-    long : 32768 ≤ length b
+    long : Large b
     long = omega (arith, u .frame .size, first .size, f .frame .size)
 
-    part : Within 26003 32768 b d
-    part = lent-within 26003 6765 b d v (omega (arith, long)) s e
+    part : Within indexPart b d
+    part = lent-within (CHAIN .at) (namedNumbers - CHAIN .at) b d v (omega (arith, long)) s e
 
-    at-zero : (x : ℕ) → x < 6765 → getD d (26003 + x) 0 ≡ 0
-    at-zero = lent-at 26003 6765 b d v (omega (arith, long)) s e (λ i. 0) h
+    at-zero : (x : ℕ) → x < namedNumbers - CHAIN .at → getD d (CHAIN .at + x) 0 ≡ 0
+    at-zero = lent-at (CHAIN .at) (namedNumbers - CHAIN .at) b d v (omega (arith, long)) s e (λ i. 0) h
 
-    nought : (at n : ℕ) → 26003 ≤ at → at + n ≤ 32768 → (x : ℕ) → seen at n (λ x. 0) d x ≡ 0
-    nought at n k m x = seen-zero at n d x (λ y l. let z : at + y ≡ 26003 + (at - 26003 + y) = omega arith in rw z (at-zero (at - 26003 + y) (omega arith)))
+    nought : (at n : ℕ) → CHAIN .at ≤ at → at + n ≤ namedNumbers → (x : ℕ) → seen (plain at n) d x ≡ 0
+    nought at n k m x = seen-zero at n d x (λ y l. let z : at + y ≡ CHAIN .at + (at - CHAIN .at + y) = omega arith in rw z (at-zero (at - CHAIN .at + y) (omega arith)))
 
     uses : (second : Bool) (x : ℕ) → useOf second d x ≡ 0
-    uses true = nought 31764 1000 (omega arith) (omega arith)
-    uses false = nought 30764 1000 (omega arith) (omega arith)
+    uses true = nought (SHARES .at) mostTags (omega arith) (omega arith)
+    uses false = nought (USES .at) mostTags (omega arith) (omega arith)
 
 pub between-start : {N len : ℕ} {w w′ : List ℕ} → Loaded N len w → Begun w w′ → Between N len 0 w′ 0
 between-start {N} {len} {w} {w′} h b = record {
@@ -199,11 +201,11 @@ between-start {N} {len} {w} {w′} h b = record {
   level = λ j l. absurd (omega arith);
 }
   where
-    history : History (joinAt w′) 0 (parentOf w′) (ageOf w′) 1000
-    history = history-start (joinAt w′) (parentOf w′) (ageOf w′) 1000 (λ x. omega (arith, b .ages x))
+    history : History (joinAt w′) 0 (parentOf w′) (ageOf w′) mostTags
+    history = history-start (joinAt w′) (parentOf w′) (ageOf w′) mostTags (λ x. omega (arith, b .ages x))
 
     lead : (x : ℕ) → leadOf w′ 0 x ≡ x
-    lead x = root-stop (parentOf w′) (ageOf w′) 1000 0 (history .links) 0 (omega arith) (omega arith) x (omega arith)
+    lead x = root-stop (parentOf w′) (ageOf w′) mostTags 0 (history .links) 0 (omega arith) (omega arith) x (omega arith)
 
 -- The idle records so far.
 module _ {N len i : ℕ} {w w′ : List ℕ} {n n′ idle : ℕ} (b : Between N len i w n) (a : Admitted N len i w n w′ n′) (c : Count (Idle N (recordsIn len w)) i idle) where
@@ -224,7 +226,7 @@ module _ {N len i : ℕ} {w w′ : List ℕ} {n n′ idle : ℕ} (b : Between N 
   idle-turn idle′ (inr h) = rw (h .1, add-one) (idle-same (h .0))
 
 -- All are in.
-pub close-done : {N len : ℕ} {w w′ : List ℕ} {n idle : ℕ} → Within 12003 32768 w w′ → Between N len len w′ n → Count (Idle N (recordsIn len w′)) len idle → Closing N len w w′ n idle
+pub close-done : {N len : ℕ} {w w′ : List ℕ} {n idle : ℕ} → Within behindColumns w w′ → Between N len len w′ n → Count (Idle N (recordsIn len w′)) len idle → Closing N len w w′ n idle
 close-done {N} {len} {w} {w′} f b c = let g = b .standing .log in record {
   kept = f;
   past = record {

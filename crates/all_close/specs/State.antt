@@ -4,7 +4,9 @@ use Prim.Native.Nat.{ℕ, suc, _≤_, _<_}
 use mathlib.Core.Path.{_≡_}
 use mathlib.Core.Bool.{Bool}
 use mathlib.Core.List.{List}
+use Rattle.meaning.specs.Limits.{mostTags}
 use Rattle.table.specs.Map.{parentOf, ageOf, labelOf, useOf, chainOf, bucketOf, Within}
+use Rattle.table.specs.Places.{AGE, allOf, behindColumns}
 use Rattle.all_index.specs.declared.Front.{Front}
 use Rattle.all_settle.specs.State.{Open}
 
@@ -23,14 +25,14 @@ pub record Coming (t : Front) (w : List ℕ) (i n : ℕ) : Type 0 where
 
 -- One more is in.
 pub record Admitted (N len i : ℕ) (w : List ℕ) (n : ℕ) (w′ : List ℕ) (n′ : ℕ) : Type 0 where
-  pub frame : Within 12003 32768 w w′
+  pub frame : Within behindColumns w w′
   pub between : Between N len (suc i) w′ n′
   pub more : n ≤ n′
 
 -- .. and before the first.
 pub record Begun (w w′ : List ℕ) : Type 0 where
-  pub frame : Within 12003 32768 w w′
-  pub ages : (x : ℕ) → ageOf w′ x ≡ 1000
+  pub frame : Within behindColumns w w′
+  pub ages : (x : ℕ) → ageOf w′ x ≡ mostTags
   pub tops : (x : ℕ) → parentOf w′ x ≡ x
   pub labels : (x : ℕ) → labelOf w′ x ≡ x
   pub chains : (r : ℕ) → chainOf w′ r ≡ 0
@@ -39,5 +41,5 @@ pub record Begun (w w′ : List ℕ) : Type 0 where
 
 -- No tag is linked.
 pub record Unlinked (w w′ : List ℕ) : Type 0 where
-  pub frame : Within 13003 14003 w w′
-  pub ages : (x : ℕ) → ageOf w′ x ≡ 1000
+  pub frame : Within (allOf AGE) w w′
+  pub ages : (x : ℕ) → ageOf w′ x ≡ mostTags

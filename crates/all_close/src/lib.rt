@@ -9,6 +9,7 @@ ghost use mathlib.Core.Bool.{true, false};
 ghost use Prim.Native.Nat.{suc, _≤_, _<_};
 ghost use lib.ListN.{length};
 ghost use Rattle.table.specs.Map.{Loaded, Within};
+ghost use Rattle.table.specs.Places.{Large, behindColumns};
 ghost use Rattle.all_index.specs.State.{eqnAt};
 ghost use Rattle.all_settle.specs.State.{Open};
 ghost use Rattle.all_close.specs.Closing.{Closing};
@@ -27,7 +28,7 @@ pub struct Totals {
 // The application at place i comes in: it waits, and its arguments' lists know it.
 fn enter(work: &mut [u16], front: Front, i: usize, joins: usize)
     requires { ⌜ Coming front (now work) i joins × (eqnAt (now work) i ≡ false) ⌝ }
-    ensures { λ _. ⌜ Within 12003 32768 (now (work .entry)) (now (work .exit)) × Open front (now (work .exit)) joins (suc i) ⌝ }
+    ensures { λ _. ⌜ Within behindColumns (now (work .entry)) (now (work .exit)) × Open front (now (work .exit)) joins (suc i) ⌝ }
 {
     let r = all_index::number(i);
     let a = table::left(work, r);
@@ -42,7 +43,7 @@ fn enter(work: &mut [u16], front: Front, i: usize, joins: usize)
 // The equation at place i comes in: its two tags are joined unless they have one label. Both labels are read as one number.
 fn equate(work: &mut [u16], front: Front, i: usize, joins: usize) -> Progress
     requires { ⌜ Coming front (now work) i joins × (eqnAt (now work) i ≡ true) ⌝ }
-    ensures { λ r. ⌜ Within 12003 32768 (now (work .entry)) (now (work .exit)) × Open front (now (work .exit)) (r .joins) (r .first) × (joins ≤ r .joins) ⌝ }
+    ensures { λ r. ⌜ Within behindColumns (now (work .entry)) (now (work .exit)) × Open front (now (work .exit)) (r .joins) (r .first) × (joins ≤ r .joins) ⌝ }
 {
     let r = all_index::number(i);
     table::put_chain(work, i, 0);
@@ -82,7 +83,7 @@ fn admit(work: &mut [u16], size: usize, len: usize, i: usize, joins: usize) -> u
 
 // No tag is linked.
 fn unlink(work: &mut [u16])
-    requires { ⌜ 32768 ≤ length (now work) ⌝ }
+    requires { ⌜ Large (now work) ⌝ }
     ensures { λ _. ⌜ Unlinked (now (work .entry)) (now (work .exit)) ⌝ }
 {
     table_labels::fill(&mut work[table::AGE..table::FIRST], table::LEADS);
@@ -90,7 +91,7 @@ fn unlink(work: &mut [u16])
 
 // The work begins: no tag linked, each its own label, no chains and no uses.
 fn begin(work: &mut [u16])
-    requires { ⌜ 32768 ≤ length (now work) ⌝ }
+    requires { ⌜ Large (now work) ⌝ }
     ensures { λ _. ⌜ Begun (now (work .entry)) (now (work .exit)) ⌝ }
 {
     unlink(work);

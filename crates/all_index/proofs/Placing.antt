@@ -11,8 +11,10 @@ use lib.ListN.{length, set}
 use borrow.Author.Tests.{eq-eqb, ne-eqb}
 use Rattle.meaning.specs.Joins.{put}
 use Rattle.meaning.proofs.Log.{put-hit, put-miss}
+use Rattle.meaning.specs.Limits.{mostRecords}
 use Rattle.table.specs.Map.{chainIn, chainOf, waitOf, bucketOf, Within}
 use Rattle.table.proofs.Frame.{seen-in, seen-out, within-trans, within-set}
+use Rattle.table.specs.Places.{BUCKETS, CHAIN, Large, WAITS, bucketCount, filePart}
 use Rattle.table_labels.proofs.Chain.{by-same}
 use Rattle.all_index.specs.declared.Front.{Front}
 use Rattle.all_index.specs.Filing.{On, here, further, link, found, Filed}
@@ -104,36 +106,36 @@ behind-room {w = w} {b = b} {q = q} g l a e = by-zero q
     (λ k. rw (e, behind-next w b q (omega arith)) (omega (arith, a .under k)))
 
 -- A link comes to stand there.
-pub led-head : {w w′ : List ℕ} {b q p : ℕ} → 32768 ≤ length w → b < 761 → q ≡ 0 → w′ ≡ set w (30003 + b) p → Led w w′ b q p
+pub led-head : {w w′ : List ℕ} {b q p : ℕ} → Large w → b < bucketCount → q ≡ 0 → w′ ≡ set w (BUCKETS .at + b) p → Led w w′ b q p
 led-head {w} {w′} {b} {q} {p} long l z e = record {
-  frame = rw e (within-set 26003 30764 w (30003 + b) p (omega arith) (omega arith));
-  head = λ y. (rw e (seen-out 26003 4000 (λ x. 0) w (30003 + b) p (inr (omega arith))), rw e (seen-in 30003 761 (λ x. 0) w b p l (omega arith)));
+  frame = rw e (within-set filePart w (BUCKETS .at + b) p (omega arith) (omega arith));
+  head = λ y. (rw e (seen-out CHAIN w (BUCKETS .at + b) p (inr (omega arith))), rw e (seen-in BUCKETS w b p l (omega arith)));
   rest = λ k. absurd (omega arith);
 }
 
-pub led-rest : {w w′ : List ℕ} {b q p : ℕ} → 32768 ≤ length w → q ≤ 4000 → q ≢ 0 → w′ ≡ set w (26003 + (q - 1)) (p + 1) → Led w w′ b q p
+pub led-rest : {w w′ : List ℕ} {b q p : ℕ} → Large w → q ≤ mostRecords → q ≢ 0 → w′ ≡ set w (CHAIN .at + (q - 1)) (p + 1) → Led w w′ b q p
 led-rest {w} {w′} {b} {q} {p} long l n e = record {
   frame = store-frame w w′ (q - 1) (p + 1) long room e;
   head = λ z. absurd (n z);
   rest = λ k. (rw add-one at (store-states w w′ (q - 1) (p + 1) long room e), store-buckets w w′ (q - 1) (p + 1) long room e);
 }
   where
-    room : q - 1 < 4000
+    room : q - 1 < mostRecords
     room = omega arith
 
 -- The place j is taken out: what stands for the places then.
 pub record Out (i : ℕ) (eqn : ℕ → Bool) (key res ch hd′ ch′ wt′ : ℕ → ℕ) (j : ℕ) : Type 0 where
-  pub filed : Filed 761 i eqn key res hd′ ch′
+  pub filed : Filed bucketCount i eqn key res hd′ ch′
   pub queue : Queue i eqn ch′ wt′ (suc j)
   pub still : (r : ℕ) → ch r ≡ 0 → ch′ r ≡ 0
   pub here : ch′ j ≡ 0
 
-module _ {i : ℕ} {eqn : ℕ → Bool} {key res hd ch wt : ℕ → ℕ} {first : ℕ} (F : Filed 761 i eqn key res hd ch) (Q : Queue i eqn ch wt first) (j : ℕ) (place : j < i) (app : eqn j ≡ false)
+module _ {i : ℕ} {eqn : ℕ → Bool} {key res hd ch wt : ℕ → ℕ} {first : ℕ} (F : Filed bucketCount i eqn key res hd ch) (Q : Queue i eqn ch wt first) (j : ℕ) (place : j < i) (app : eqn j ≡ false)
     (some : 0 < ch j) where
   other : (r : ℕ) → ch r ≡ 0 → r ≢ j
   other r z e = let y : ch j ≡ 0 = rw e at z in omega arith
 
-  out : {hd′ ch′ wt′ : ℕ → ℕ} → ch′ ≡ put j 0 ch → wt′ ≡ put j first wt → Filed 761 i eqn key res hd′ (put j 0 ch) → Out i eqn key res ch hd′ ch′ wt′ j
+  out : {hd′ ch′ wt′ : ℕ → ℕ} → ch′ ≡ put j 0 ch → wt′ ≡ put j first wt → Filed bucketCount i eqn key res hd′ (put j 0 ch) → Out i eqn key res ch hd′ ch′ wt′ j
   out {ch′ = ch′} {wt′ = wt′} e w G = record {
     filed = rw e G;
     queue = queue-push Q j place app some ch′ wt′ (rw e (put-hit j 0 ch)) (rw w (put-hit j first wt))
@@ -183,28 +185,28 @@ module _ {i : ℕ} {eqn : ℕ → Bool} {key res hd ch wt : ℕ → ℕ} {first 
       not-q : (r : ℕ) → ch r ≡ 0 → r ≢ q
       not-q r z s = let y : ch q ≡ 0 = rw s at z in omega (arith, h)
 
-out-touched : {t : Front} {w w′ : List ℕ} {j : ℕ} → Filing t w → Within 26003 30764 w w′ → Out (t .places) (eqnAt w) (keyAt w) (resAt w) (chainOf w) (bucketOf w′) (chainOf w′) (waitOf w′) j
+out-touched : {t : Front} {w w′ : List ℕ} {j : ℕ} → Filing t w → Within filePart w w′ → Out (t .places) (eqnAt w) (keyAt w) (resAt w) (chainOf w) (bucketOf w′) (chainOf w′) (waitOf w′) j
     → Touched t w w′ (suc j) × (chainOf w′ j ≡ 0)
 out-touched {t} g f o = (record { frame = f; filing = filing-same f g (o .filed); queue = queued-same f t (o .queue); still = o .still }, o .here)
 
 -- The same of the table.
 module _ {t : Front} {w : List ℕ} {b q j first : ℕ} (g : Filing t w) (Q : Queued t w first) (place : j < t .places) (app : eqnAt w j ≡ false) (some : 0 < chainOf w j)
-    (eb : b ≡ keyAt w j % 761) (a : Above w b j q) where
-  F : Filed 761 (t .places) (eqnAt w) (keyAt w) (resAt w) (bucketOf w) (chainOf w)
+    (eb : b ≡ keyAt w j % bucketCount) (a : Above w b j q) where
+  F : Filed bucketCount (t .places) (eqnAt w) (keyAt w) (resAt w) (bucketOf w) (chainOf w)
   F = g .filed
 
-  room : j < 4000
+  room : j < mostRecords
   room = omega (arith, g .reach, g .loaded .most)
 
   -- It stands there.
-  pub taken : {w₁ w′ : List ℕ} {p : ℕ} → p ≡ chainOf w j - 1 → behindIn w b q ≡ suc j → Led w w₁ b q p → w′ ≡ set w₁ (26003 + j) (first + 4002) → Touched t w w′ (suc j) × (chainOf w′ j ≡ 0)
+  pub taken : {w₁ w′ : List ℕ} {p : ℕ} → p ≡ chainOf w j - 1 → behindIn w b q ≡ suc j → Led w w₁ b q p → w′ ≡ set w₁ (CHAIN .at + j) (first + WAITS) → Touched t w w′ (suc j) × (chainOf w′ j ≡ 0)
   taken {w₁} {w′} {p} ep at l e = out-touched g frame (by-zero q at-head at-rest)
     where
-      long : 32768 ≤ length w₁
+      long : Large w₁
       long = rw (l .frame .size) (g .loaded .long)
 
-      frame : Within 26003 30764 w w′
-      frame = within-trans (l .frame) (store-frame w₁ w′ j (first + 4002) long room e)
+      frame : Within filePart w w′
+      frame = within-trans (l .frame) (store-frame w₁ w′ j (first + WAITS) long room e)
 
       chains : chainOf w′ ≡ put j 0 (chainOf w₁)
       chains = wait-chains w₁ w′ j first long room e
@@ -213,7 +215,7 @@ module _ {t : Front} {w : List ℕ} {b q j first : ℕ} (g : Filing t w) (Q : Qu
       waits = wait-waits w₁ w′ j first long room e
 
       buckets : bucketOf w′ ≡ bucketOf w₁
-      buckets = store-buckets w₁ w′ j (first + 4002) long room e
+      buckets = store-buckets w₁ w′ j (first + WAITS) long room e
 
       at-head : q ≡ 0 → Out (t .places) (eqnAt w) (keyAt w) (resAt w) (chainOf w) (bucketOf w′) (chainOf w′) (waitOf w′) j
       at-head z =
@@ -221,7 +223,7 @@ module _ {t : Front} {w : List ℕ} {b q j first : ℕ} (g : Filing t w) (Q : Qu
           out-head F Q j place app some b (sym (behind-head w b q z) ∙ at)
           (buckets ∙ h .1 ∙ ap (λ (x : ℕ). put b x (bucketOf w)) ep)
           (chains ∙ ap (λ (f : ℕ → ℕ). put j 0 (λ r. chainIn (f r))) (h .0))
-          (waits ∙ ap (λ (f : ℕ → ℕ). put j first (λ r. f r - 4002)) (h .0))
+          (waits ∙ ap (λ (f : ℕ → ℕ). put j first (λ r. f r - WAITS)) (h .0))
 
       at-rest : 0 < q → Out (t .places) (eqnAt w) (keyAt w) (resAt w) (chainOf w) (bucketOf w′) (chainOf w′) (waitOf w′) j
       at-rest k =
@@ -243,17 +245,17 @@ module _ {t : Front} {w : List ℕ} {b q j first : ℕ} (g : Filing t w) (Q : Qu
       (λ z. let h = on-below F (bucketOf w b) j u in n (behind-head w b q z ∙ (let k = a .head z in omega arith)))
       (λ k. off-chain F b (q - 1) j (a .on k) (a .over k) (let e = behind-next w b q (omega arith) in let h = a .under k in omega arith) u)
 
-  pub left : {w′ : List ℕ} → behindIn w b q ≢ suc j → w′ ≡ set w (26003 + j) (first + 4002) → Touched t w w′ (suc j) × (chainOf w′ j ≡ 0)
-  left {w′} n e = out-touched g (store-frame w w′ j (first + 4002) (g .loaded .long) room e)
-      (out-off F Q j place app some (none n) (store-buckets w w′ j (first + 4002) (g .loaded .long) room e) (wait-chains w w′ j first (g .loaded .long) room e) (wait-waits w w′ j first (g .loaded .long) room e))
+  pub left : {w′ : List ℕ} → behindIn w b q ≢ suc j → w′ ≡ set w (CHAIN .at + j) (first + WAITS) → Touched t w w′ (suc j) × (chainOf w′ j ≡ 0)
+  left {w′} n e = out-touched g (store-frame w w′ j (first + WAITS) (g .loaded .long) room e)
+      (out-off F Q j place app some (none n) (store-buckets w w′ j (first + WAITS) (g .loaded .long) room e) (wait-chains w w′ j first (g .loaded .long) room e) (wait-waits w w′ j first (g .loaded .long) room e))
 
 -- The place j, the first that waits, is filed: what stands for the places then.
 pub record In (i : ℕ) (eqn : ℕ → Bool) (key res ch hd′ ch′ wt′ : ℕ → ℕ) (first : ℕ) : Type 0 where
-  pub filed : Filed 761 i eqn key res hd′ ch′
+  pub filed : Filed bucketCount i eqn key res hd′ ch′
   pub queue : Queue i eqn ch′ wt′ first
   pub less : waiting i ch′ < waiting i ch
 
-module _ {i : ℕ} {eqn : ℕ → Bool} {key res hd ch wt : ℕ → ℕ} {j : ℕ} (F : Filed 761 i eqn key res hd ch) (Q : Queue i eqn ch wt (suc j)) (new : found 761 key hd ch (key j) ≡ 0) where
+module _ {i : ℕ} {eqn : ℕ → Bool} {key res hd ch wt : ℕ → ℕ} {j : ℕ} (F : Filed bucketCount i eqn key res hd ch) (Q : Queue i eqn ch wt (suc j)) (new : found bucketCount key hd ch (key j) ≡ 0) where
   h : (j < i) × (eqn j ≡ false) × (ch j ≡ 0)
   h = queue-head j Q
 
@@ -264,24 +266,24 @@ module _ {i : ℕ} {eqn : ℕ → Bool} {key res hd ch wt : ℕ → ℕ} {j : �
   off b o = let f = F .filed b j o .1 in omega (arith, h .2)
 
   -- At the head of its chain.
-  pub in-head : {hd′ ch′ wt′ : ℕ → ℕ} → hd (key j % 761) ≤ suc j → hd′ ≡ put (key j % 761) (suc j) hd → ch′ ≡ put j (suc (hd (key j % 761))) ch → ((r : ℕ) → r ≢ j → wt′ r ≡ wt r) → In i eqn key res ch hd′ ch′ wt′ (wt j)
+  pub in-head : {hd′ ch′ wt′ : ℕ → ℕ} → hd (key j % bucketCount) ≤ suc j → hd′ ≡ put (key j % bucketCount) (suc j) hd → ch′ ≡ put j (suc (hd (key j % bucketCount))) ch → ((r : ℕ) → r ≢ j → wt′ r ≡ wt r) → In i eqn key res ch hd′ ch′ wt′ (wt j)
   in-head {ch′ = ch′} {wt′ = wt′} l d e w = record {
     filed = rw (d, e) (file F j (h .0) (h .1) (h .2) low new);
     queue = queue-pop j Q ch′ wt′ here′ (λ r n z. (same r n ∙ z, w r n)) (λ r k. rw (same r (away r k)) k);
     less = waiting-less i j ch ch′ (h .0) (h .2) here′ (λ r n. (λ z. same r n ∙ z, λ k. rw (same r n) k));
   }
     where
-      low : hd (key j % 761) ≤ j
-      low = by-same (hd (key j % 761)) (suc j) (λ z. absurd (off (key j % 761) (rw z here))) (λ n. omega arith)
+      low : hd (key j % bucketCount) ≤ j
+      low = by-same (hd (key j % bucketCount)) (suc j) (λ z. absurd (off (key j % bucketCount) (rw z here))) (λ n. omega arith)
 
       here′ : 0 < ch′ j
-      here′ = rw (e, put-hit j (suc (hd (key j % 761))) ch) (omega arith)
+      here′ = rw (e, put-hit j (suc (hd (key j % bucketCount))) ch) (omega arith)
 
       same : (r : ℕ) → r ≢ j → ch′ r ≡ ch r
-      same r n = rw e (put-miss j (suc (hd (key j % 761))) ch r n)
+      same r n = rw e (put-miss j (suc (hd (key j % bucketCount))) ch r n)
 
   -- Behind another.
-  pub in-behind : {hd′ ch′ wt′ : ℕ → ℕ} → (q : ℕ) → On (link ch) (hd (key j % 761)) q → j < q → link ch q ≤ suc j → hd′ ≡ hd → ch′ ≡ put q (suc (suc j)) (put j (ch q) ch) → ((r : ℕ) → r ≢ q → r ≢ j → wt′ r ≡ wt r)
+  pub in-behind : {hd′ ch′ wt′ : ℕ → ℕ} → (q : ℕ) → On (link ch) (hd (key j % bucketCount)) q → j < q → link ch q ≤ suc j → hd′ ≡ hd → ch′ ≡ put q (suc (suc j)) (put j (ch q) ch) → ((r : ℕ) → r ≢ q → r ≢ j → wt′ r ≡ wt r)
       → In i eqn key res ch hd′ ch′ wt′ (wt j)
   in-behind {ch′ = ch′} {wt′ = wt′} q o l m d e w = record {
     filed = rw (d, swap) (slip-in F q j o l under (h .0) (h .1) (h .2) new);
@@ -290,13 +292,13 @@ module _ {i : ℕ} {eqn : ℕ → Bool} {key res hd ch wt : ℕ → ℕ} {j : �
   }
     where
       on-q : 0 < ch q
-      on-q = F .filed (key j % 761) q o .1
+      on-q = F .filed (key j % bucketCount) q o .1
 
       apart : q ≢ j
       apart s = omega arith
 
       under : link ch q ≤ j
-      under = by-same (link ch q) (suc j) (λ z. absurd (off (key j % 761) (on-behind o z))) (λ n. omega arith)
+      under = by-same (link ch q) (suc j) (λ z. absurd (off (key j % bucketCount) (on-behind o z))) (λ n. omega arith)
 
       swap : ch′ ≡ put j (ch q) (put q (suc (suc j)) ch)
       swap = e ∙ put-swap q j (suc (suc j)) (ch q) ch apart
@@ -317,24 +319,24 @@ module _ {i : ℕ} {eqn : ℕ → Bool} {key res hd ch wt : ℕ → ℕ} {j : �
       kept r n k = by-same r q (λ s. rw (s, at-q) (omega arith)) (λ u. rw (at-else r u n) k)
 
 -- The same of the table.
-pub put-in : {t : Front} {w w₁ w′ : List ℕ} {b q j next p : ℕ} → Filing t w → Queued t w (suc j) → b ≡ keyAt w j % 761 → foundIn w (keyAt w j) ≡ 0 → Above w b j q
-    → next ≡ waitOf w j → p ≡ behindIn w b q → w₁ ≡ set w (26003 + j) (p + 1) → Led w₁ w′ b q (j + 1)
-    → Within 26003 30764 w w′ × Filing t w′ × Queued t w′ next × (waiting (t .places) (chainOf w′) < waiting (t .places) (chainOf w))
+pub put-in : {t : Front} {w w₁ w′ : List ℕ} {b q j next p : ℕ} → Filing t w → Queued t w (suc j) → b ≡ keyAt w j % bucketCount → foundIn w (keyAt w j) ≡ 0 → Above w b j q
+    → next ≡ waitOf w j → p ≡ behindIn w b q → w₁ ≡ set w (CHAIN .at + j) (p + 1) → Led w₁ w′ b q (j + 1)
+    → Within filePart w w′ × Filing t w′ × Queued t w′ next × (waiting (t .places) (chainOf w′) < waiting (t .places) (chainOf w))
 put-in {t} {w} {w₁} {w′} {b} {q} {j} {next} {p} g Q eb new a en ep e l = (frame, filing-same frame g (z .filed), queued-same frame t (rw en (z .queue)), z .less)
   where
-    F : Filed 761 (t .places) (eqnAt w) (keyAt w) (resAt w) (bucketOf w) (chainOf w)
+    F : Filed bucketCount (t .places) (eqnAt w) (keyAt w) (resAt w) (bucketOf w) (chainOf w)
     F = g .filed
 
     place : j < t .places
     place = queue-head j Q .0
 
-    room : j < 4000
+    room : j < mostRecords
     room = omega (arith, place, g .reach, g .loaded .most)
 
-    small : p ≤ 4000
+    small : p ≤ mostRecords
     small = omega (arith, behind-room g place a ep, g .reach, g .loaded .most)
 
-    frame : Within 26003 30764 w w′
+    frame : Within filePart w w′
     frame = within-trans (store-frame w w₁ j (p + 1) (g .loaded .long) room e) (l .frame)
 
     chains : chainOf w₁ ≡ put j (suc p) (chainOf w)
@@ -349,11 +351,11 @@ put-in {t} {w} {w₁} {w′} {b} {q} {j} {next} {p} g Q eb new a en ep e l = (fr
     at-head : q ≡ 0 → In (t .places) (eqnAt w) (keyAt w) (resAt w) (chainOf w) (bucketOf w′) (chainOf w′) (waitOf w′) (waitOf w j)
     at-head s =
         let d = l .head s in
-        let ek : p ≡ bucketOf w (keyAt w j % 761) = ep ∙ behind-head w b q s ∙ ap (bucketOf w) eb in
+        let ek : p ≡ bucketOf w (keyAt w j % bucketCount) = ep ∙ behind-head w b q s ∙ ap (bucketOf w) eb in
         in-head F Q new (rw (← eb) (a .head s))
         (rw (← eb) (d .1 ∙ rw (buckets, add-one)))
         (ap {B = ℕ → ℕ} (λ (f : ℕ → ℕ) (r : ℕ). chainIn (f r)) (d .0) ∙ chains ∙ ap (λ (x : ℕ). put j (suc x) (chainOf w)) ek)
-        (λ r n. ap (λ (f : ℕ → ℕ). f r - 4002) (d .0) ∙ waits r n)
+        (λ r n. ap (λ (f : ℕ → ℕ). f r - WAITS) (d .0) ∙ waits r n)
 
     at-rest : 0 < q → In (t .places) (eqnAt w) (keyAt w) (resAt w) (chainOf w) (bucketOf w′) (chainOf w′) (waitOf w′) (waitOf w j)
     at-rest k =

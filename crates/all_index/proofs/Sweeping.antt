@@ -10,6 +10,7 @@ use Rattle.table.specs.Map.{leftOf, rightOf, labelOf, useOf, moreOf, chainOf, W
 use Rattle.table.proofs.Frame.{within-refl, within-trans}
 use Rattle.table_labels.proofs.Chain.{by-same}
 use Rattle.table.proofs.Kept.{lefts, rights, results}
+use Rattle.table.specs.Places.{filePart}
 use Rattle.all_index.specs.declared.Front.{Front}
 use Rattle.all_index.specs.Filing.{On, further}
 use Rattle.all_index.specs.State.{eqnAt, Filing, Queued, Indexed, Touched}
@@ -105,7 +106,7 @@ swept-step {t} {hi} {w} {w₁} {w′} x to to′ s c h = record {
       (λ n. c .still j (s .waits y (omega arith) e j k q d));
 }
   where
-    f : Within 26003 30764 w w₁
+    f : Within filePart w w₁
     f = s .touched .frame
 
     here′ : (j : ℕ) → j < t .places → eqnAt w j ≡ false → labelOf w x ≡ hi → (leftOf w (suc j) ≡ x) ⊎ (rightOf w (suc j) ≡ x) → chainOf w′ j ≡ 0

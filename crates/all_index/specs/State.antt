@@ -7,13 +7,14 @@ use mathlib.Core.List.{List}
 use lib.Dec.{eqb}
 use Rattle.meaning.specs.Joins.{put}
 use Rattle.table.specs.Map.{leftOf, rightOf, resultOf, labelOf, useOf, moreOf, stateOf, chainOf, waitOf, bucketOf, Loaded, Within}
+use Rattle.table.specs.Places.{EQUATION, bucketCount, filePart}
 use Rattle.all_index.specs.Filing.{On, link, found, Filed, Uses}
 use Rattle.all_index.specs.Waiting.{Queue}
 use Rattle.all_index.specs.declared.Front.{Front}
 
 -- By place: whether the record is an equation, both argument labels as one number, the result's label.
 abbrev pub eqnAt : List ℕ → ℕ → Bool
-eqnAt w j = eqb (resultOf w (suc j)) 65535
+eqnAt w j = eqb (resultOf w (suc j)) EQUATION
 
 abbrev pub keyAt : List ℕ → ℕ → ℕ
 keyAt w j = labelOf w (leftOf w (suc j)) * 65536 + labelOf w (rightOf w (suc j))
@@ -28,13 +29,13 @@ tagAt true w j = rightOf w (suc j)
 
 -- What the chains have for a key.
 abbrev pub foundIn : List ℕ → ℕ → ℕ
-foundIn w x = found 761 (keyAt w) (bucketOf w) (chainOf w) x
+foundIn w x = found bucketCount (keyAt w) (bucketOf w) (chainOf w) x
 
 -- The applications that are in are filed by their keys, but for those that wait; and the tags' lists know them.
 pub record Filing (t : Front) (w : List ℕ) : Type 0 where
   pub loaded : Loaded (t .size) (t .len) w
   pub reach : t .places ≤ t .len
-  pub filed : Filed 761 (t .places) (eqnAt w) (keyAt w) (resAt w) (bucketOf w) (chainOf w)
+  pub filed : Filed bucketCount (t .places) (eqnAt w) (keyAt w) (resAt w) (bucketOf w) (chainOf w)
 
 abbrev pub Used : Bool → ℕ → List ℕ → Type 0
 Used second i w = Uses i (eqnAt w) (tagAt second w) (useOf second w) (moreOf second w)
@@ -50,7 +51,7 @@ pub record Indexed (t : Front) (w : List ℕ) (first : ℕ) : Type 0 where
 
 -- Some applications were taken out and wait now. Nothing else was written.
 pub record Touched (t : Front) (w w′ : List ℕ) (first : ℕ) : Type 0 where
-  pub frame : Within 26003 30764 w w′
+  pub frame : Within filePart w w′
   pub filing : Filing t w′
   pub queue : Queued t w′ first
   pub still : (r : ℕ) → chainOf w r ≡ 0 → chainOf w′ r ≡ 0
@@ -67,6 +68,6 @@ abbrev pub behindIn : List ℕ → ℕ → ℕ → ℕ
 behindIn w b q = cond (eqb q 0) (bucketOf w b) (link (chainOf w) (q - 1))
 
 pub record Led (w w′ : List ℕ) (b q p : ℕ) : Type 0 where
-  pub frame : Within 26003 30764 w w′
+  pub frame : Within filePart w w′
   pub head : q ≡ 0 → (stateOf w′ ≡ stateOf w) × (bucketOf w′ ≡ put b p (bucketOf w))
   pub rest : 0 < q → (stateOf w′ ≡ put (q - 1) (suc p) (stateOf w)) × (bucketOf w′ ≡ bucketOf w)

@@ -18,6 +18,7 @@ use Rattle.meaning.proofs.Log.{put-hit, put-miss, grounds-more, linked-same, us
 use Rattle.meaning.proofs.Relabel.{into-hit, into-miss, count-same, agree-same, Ends}
 use Rattle.meaning.proofs.Forest.{root-stop, root-up, root-labels, link-before, link-after, history-link}
 use Rattle.meaning.proofs.Exact.{Settled}
+use Rattle.meaning.specs.Limits.{mostTags}
 use Rattle.all_join.specs.State.{Logged, Due}
 
 -- What a due join rests on makes its ends equal, ..
@@ -62,22 +63,22 @@ module _ {rs : List Rec} {L : List ℕ} {places : ℕ} {p g : ℕ → ℕ} {e : 
   f = root p g n
 
   pub leaders : Labels f
-  leaders = root-labels p g 1000 n (G .history .links) n (omega arith) (G .history .room)
+  leaders = root-labels p g mostTags n (G .history .links) n (omega arith) (G .history .room)
 
   -- A tag that leads has no link, and one that has none leads.
-  pub leads : (x : ℕ) → f x ≡ x → 1000 ≤ g x
+  pub leads : (x : ℕ) → f x ≡ x → mostTags ≤ g x
   leads x q = go (G .history .links .age x)
     where
-      go : (g x < n) ⊎ (1000 ≤ g x) → 1000 ≤ g x
+      go : (g x < n) ⊎ (mostTags ≤ g x) → mostTags ≤ g x
       go (inr h) = h
       go (inl h) =
-          let up : root p g n x ≡ root p g n (p x) = root-up p g 1000 n (G .history .links) n (omega arith) (G .history .room) x h in
+          let up : root p g n x ≡ root p g n (p x) = root-up p g mostTags n (G .history .links) n (omega arith) (G .history .room) x h in
           absurd (omega (arith, leaders .low (p x), G .history .links .down x h))
 
-  pub unlinked-leads : (x : ℕ) → 1000 ≤ g x → f x ≡ x
-  unlinked-leads x h = root-stop p g 1000 n (G .history .links) n (omega arith) (G .history .room) x (omega (arith, G .history .room))
+  pub unlinked-leads : (x : ℕ) → mostTags ≤ g x → f x ≡ x
+  unlinked-leads x h = root-stop p g mostTags n (G .history .links) n (omega arith) (G .history .room) x (omega (arith, G .history .room))
 
-  module _ {N : ℕ} {j : Join} (lo hi : ℕ) (room : suc n ≤ 1000) (less : lo < hi) (own : f lo ≡ lo) (own′ : f hi ≡ hi) (ends : Ends f lo hi j) (d : Due N rs L f j) (some : 1 ≤ places) where
+  module _ {N : ℕ} {j : Join} (lo hi : ℕ) (room : suc n ≤ mostTags) (less : lo < hi) (own : f lo ≡ lo) (own′ : f hi ≡ hi) (ends : Ends f lo hi j) (d : Due N rs L f j) (some : 1 ≤ places) where
     e′ : ℕ → Join
     e′ = put n j e
 
@@ -116,17 +117,17 @@ module _ {rs : List Rec} {L : List ℕ} {places : ℕ} {p g : ℕ → ℕ} {e : 
     moment k l =
         let m = count-low (λ a. leb (wh a) k) n in
         rw (age-same k l) (settled-move (λ a h. old a (omega arith))
-        (fun-ext (λ x. link-before p g 1000 n (G .history .links) room lo hi less (leads lo own) (leads hi own′) (count (λ a. leb (wh a) k) n) m x)) (G .moments k l))
+        (fun-ext (λ x. link-before p g mostTags n (G .history .links) room lo hi less (leads lo own) (leads hi own′) (count (λ a. leb (wh a) k) n) m x)) (G .moments k l))
 
     -- The leaders after it, ..
     pub lead-join : root (put hi lo p) (put hi n g) (suc n) ≡ (λ x. into lo hi (f x))
-    lead-join = fun-ext (λ x. link-after p g 1000 n (G .history .links) room lo hi less (leads lo own) (leads hi own′) x)
+    lead-join = fun-ext (λ x. link-after p g mostTags n (G .history .links) room lo hi less (leads lo own) (leads hi own′) x)
 
     -- .. and the log.
     pub logged-join : Logged rs L places (put hi lo p) (put hi n g) (put n j e) (put n places wh) (suc n)
     unfolding e′
     logged-join = record {
-      history = history-link e n p g 1000 (G .history) room j lo hi less (leads lo own) (leads hi own′) ends;
+      history = history-link e n p g mostTags (G .history) room j lo hi less (leads lo own) (leads hi own′) ends;
       justified = λ a l o. justified′ a l (ℕ-discrete a n);
       within = within′;
       made = λ a l. made′ a l (ℕ-discrete a n);

@@ -9,30 +9,31 @@ use Rattle.table.specs.Map.{leftOf, rightOf, parentOf, ageOf, firstOf, secondOf
 use Rattle.table.proofs.Frame.{seen-within, within-wider}
 use Rattle.table_labels.proofs.Rows.{split-key}
 use Rattle.table.proofs.Kept.{lefts, rights, results, loaded-same}
+use Rattle.table.specs.Places.{AGE, FIRST, LABEL, PARENT, SECOND, WHEN, behindColumns, behindJoins, indexPart}
 use Rattle.all_index.specs.declared.Front.{Front}
 use Rattle.all_index.specs.State.{keyAt}
 use Rattle.all_index.proofs.Views.{row-right}
 use Rattle.all_join.specs.State.{Standing}
 
 -- A change behind the log that keeps the labels keeps what stands.
-module _ {w w′ : List ℕ} (f : Within 17003 32768 w w′) (label : labelOf w′ ≡ labelOf w) where
-  frame : Within 12003 32768 w w′
-  frame = within-wider 12003 32768 (omega arith) (omega arith) f
+module _ {w w′ : List ℕ} (f : Within behindJoins w w′) (label : labelOf w′ ≡ labelOf w) where
+  frame : Within behindColumns w w′
+  frame = within-wider behindColumns (omega arith) (omega arith) f
 
   parent : parentOf w′ ≡ parentOf w
-  parent = seen-within 12003 1000 (λ x. x) f (inl (omega arith))
+  parent = seen-within PARENT f (inl (omega arith))
 
   age : ageOf w′ ≡ ageOf w
-  age = seen-within 13003 1000 (λ x. 1000) f (inl (omega arith))
+  age = seen-within AGE f (inl (omega arith))
 
   first : firstOf w′ ≡ firstOf w
-  first = seen-within 14003 1000 (λ x. 0) f (inl (omega arith))
+  first = seen-within FIRST f (inl (omega arith))
 
   second : secondOf w′ ≡ secondOf w
-  second = seen-within 15003 1000 (λ x. 0) f (inl (omega arith))
+  second = seen-within SECOND f (inl (omega arith))
 
   when : whenOf w′ ≡ whenOf w
-  when = seen-within 16003 1000 (λ x. 0) f (inl (omega arith))
+  when = seen-within WHEN f (inl (omega arith))
 
   joins : joinAt w′ ≡ joinAt w
   joins = fun-ext (λ a. rw (first, second, lefts frame, rights frame, results frame))
@@ -49,8 +50,8 @@ module _ {w w′ : List ℕ} (f : Within 17003 32768 w w′) (label : labelOf w�
     marks = rw (label, parent, age) (s .marks);
   }
 
-pub standing-frame : {t : Front} {w w′ : List ℕ} {n : ℕ} → Within 26003 32768 w w′ → Standing t w n → Standing t w′ n
-standing-frame f = standing-same (within-wider 17003 32768 (omega arith) (omega arith) f) (seen-within 21003 1000 (λ x. x) f (inl (omega arith)))
+pub standing-frame : {t : Front} {w w′ : List ℕ} {n : ℕ} → Within indexPart w w′ → Standing t w n → Standing t w′ n
+standing-frame f = standing-same (within-wider behindJoins (omega arith) (omega arith) f) (seen-within LABEL f (inl (omega arith)))
 
 -- The labels of two applications with one key.
 module _ {t : Front} {w : List ℕ} {n : ℕ} (s : Standing t w n) where

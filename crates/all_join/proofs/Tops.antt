@@ -17,15 +17,17 @@ use Rattle.meaning.specs.Forest.{rootIn, root}
 use Rattle.meaning.proofs.Count.{count-low}
 use Rattle.meaning.proofs.Log.{put-hit, put-miss}
 use Rattle.meaning.proofs.Relabel.{into-hit, into-miss, getD-any}
+use Rattle.meaning.specs.Limits.{mostTags}
 use Rattle.table.specs.Map.{labelOf, Within}
 use Rattle.table.proofs.Frame.{seen-at, seen-past, within-wider}
+use Rattle.table.specs.Places.{LABEL, Large, allOf, fromTo}
 use Rattle.table_labels.specs.Parts.{Relabelled}
 use Rattle.table_labels.proofs.Views.{part-within, part-at}
 use Rattle.all_join.specs.State.{Logged, Topped}
 use Rattle.all_join.proofs.Joining.{leads}
 
 -- What stands for a tag that leads changes no leader, as long as its age is none.
-module _ (p g : ℕ → ℕ) (x v u a : ℕ) (old : 1000 ≤ g x) (new : 1000 ≤ u) (low : a ≤ 1000) where
+module _ (p g : ℕ → ℕ) (x v u a : ℕ) (old : mostTags ≤ g x) (new : mostTags ≤ u) (low : a ≤ mostTags) where
   kept-in : (n y : ℕ) → rootIn (put x v p) (put x u g) a n y ≡ rootIn p g a n y
   kept-in zero y = refl
   kept-in (suc n) y = elim (ℕ-discrete y x) [
@@ -36,8 +38,8 @@ module _ (p g : ℕ → ℕ) (x v u a : ℕ) (old : 1000 ≤ g x) (new : 1000 �
   root-kept : root (put x v p) (put x u g) a ≡ root p g a
   root-kept = fun-ext (λ y. kept-in y y)
 
-module _ {rs : List Rec} {L : List ℕ} {places : ℕ} {p g : ℕ → ℕ} {e : ℕ → Join} {wh : ℕ → ℕ} {n : ℕ} (G : Logged rs L places p g e wh n) (x v u : ℕ) (own : root p g n x ≡ x) (heavy : 1000 ≤ u) where
-  high : 1000 ≤ g x
+module _ {rs : List Rec} {L : List ℕ} {places : ℕ} {p g : ℕ → ℕ} {e : ℕ → Join} {wh : ℕ → ℕ} {n : ℕ} (G : Logged rs L places p g e wh n) (x v u : ℕ) (own : root p g n x ≡ x) (heavy : mostTags ≤ u) where
+  high : mostTags ≤ g x
   high = leads G x own
 
   kept : (a : ℕ) → a ≤ n → root (put x v p) (put x u g) a ≡ root p g a
@@ -66,7 +68,7 @@ module _ {rs : List Rec} {L : List ℕ} {places : ℕ} {p g : ℕ → ℕ} {e : 
       let b = age z (elsewhere z (omega arith)) in
       G .history .links .once y z (older y l) (omega arith)
 
-  ages : (y : ℕ) → Dec (y ≡ x) → (put x u g y < n) ⊎ (1000 ≤ put x u g y)
+  ages : (y : ℕ) → Dec (y ≡ x) → (put x u g y < n) ⊎ (mostTags ≤ put x u g y)
   ages y (yes q) = rw (q, put-hit x u g) (inr heavy)
   ages y (no q) = rw (put-miss x u g y q) (G .history .links .age y)
 
@@ -124,12 +126,12 @@ tops-join {N} {f} {p} lo hi m t less high of-lo of-hi a b c = record { above = �
     below x l q (no d) (no e) = rw (at-else x e d) (t .below x l (same x q e))
 
 -- Relabelling the part that has all tags of a label is relabelling all labels.
-module _ (w w′ v : List ℕ) (lo hi from top at n : ℕ) (long : 32768 ≤ length w) (low : from ≤ top) (few : top < 1000) (ea : at ≡ 21003 + from) (en : at + n ≡ 21003 + top + 1)
+module _ (w w′ v : List ℕ) (lo hi from top at n : ℕ) (long : Large w) (low : from ≤ top) (few : top < mostTags) (ea : at ≡ LABEL .at + from) (en : at + n ≡ LABEL .at + top + 1)
     (between : (x : ℕ) → labelOf w x ≡ hi → (from ≤ x) × (x ≤ top)) (e : w′ ≡ take at w ++ (v ++ drop n (drop at w))) (q : v ≡ map (into lo hi) (take n (drop at w))) where
   size : length v ≡ n
   size = rw q (length-map (take n (drop at w)) (into lo hi) ∙ length-take-le n (drop at w) (rw length-drop (omega arith)))
 
-  frame : Within at (at + n) w w′
+  frame : Within (fromTo at (at + n)) w w′
   frame = rw e (part-within at n w v (omega arith) size)
 
   old : (y : ℕ) → y < n → getD (take n (drop at w)) y 0 ≡ getD w (at + y) 0
@@ -137,24 +139,24 @@ module _ (w w′ v : List ℕ) (lo hi from top at n : ℕ) (long : 32768 ≤ len
 
   inside : (x : ℕ) → from ≤ x → x ≤ top → labelOf w′ x ≡ into lo hi (labelOf w x)
   inside x a b =
-      let z : 21003 + x ≡ at + (x - from) = omega arith in
+      let z : (LABEL .at) + x ≡ at + (x - from) = omega arith in
       let l : x - from < n = omega arith in
-      rw (seen-at 21003 1000 (λ x. x) w′ x (omega arith), seen-at 21003 1000 (λ x. x) w x (omega arith), z, e) (part-at at n w v (omega arith) size (x - from) l
+      rw (seen-at LABEL w′ x (omega arith), seen-at LABEL w x (omega arith), z, e) (part-at at n w v (omega arith) size (x - from) l
       ∙ getD-any v (x - from) 0 (into lo hi 0) (omega (arith, size)) ∙ ap (λ (u : List ℕ). getD u (x - from) (into lo hi 0)) q ∙ List·getD-map (into lo hi) (take n (drop at w)) (x - from) 0 ∙ ap (into lo hi) (old (x - from) l))
 
   -- Other tags have another label.
   other : (x : ℕ) → labelOf w′ x ≡ labelOf w x → (labelOf w x ≢ hi) → labelOf w′ x ≡ into lo hi (labelOf w x)
   other x h d = h ∙ sym (into-miss lo hi (labelOf w x) d)
 
-  outside : (x : ℕ) → (x < from) ⊎ (top < x) → Dec (x < 1000) → labelOf w′ x ≡ labelOf w x
-  outside x (inl h) (yes l) = rw (seen-at 21003 1000 (λ x. x) w′ x l, seen-at 21003 1000 (λ x. x) w x l) (frame .same (21003 + x) (inl (omega arith)))
-  outside x (inr h) (yes l) = rw (seen-at 21003 1000 (λ x. x) w′ x l, seen-at 21003 1000 (λ x. x) w x l) (frame .same (21003 + x) (inr (omega arith)))
-  outside x h (no l) = rw (seen-past 21003 1000 (λ x. x) w′ x (omega arith), seen-past 21003 1000 (λ x. x) w x (omega arith))
+  outside : (x : ℕ) → (x < from) ⊎ (top < x) → Dec (x < mostTags) → labelOf w′ x ≡ labelOf w x
+  outside x (inl h) (yes l) = rw (seen-at LABEL w′ x l, seen-at LABEL w x l) (frame .same (LABEL .at + x) (inl (omega arith)))
+  outside x (inr h) (yes l) = rw (seen-at LABEL w′ x l, seen-at LABEL w x l) (frame .same (LABEL .at + x) (inr (omega arith)))
+  outside x h (no l) = rw (seen-past LABEL w′ x (omega arith), seen-past LABEL w x (omega arith))
 
   go : (x : ℕ) → Dec (x < from) → Dec (top < x) → labelOf w′ x ≡ into lo hi (labelOf w x)
-  go x (yes h) d = other x (outside x (inl h) (decLt x 1000)) (λ z. omega (arith, between x z))
-  go x (no h) (yes d) = other x (outside x (inr d) (decLt x 1000)) (λ z. omega (arith, between x z))
+  go x (yes h) d = other x (outside x (inl h) (decLt x mostTags)) (λ z. omega (arith, between x z))
+  go x (no h) (yes d) = other x (outside x (inr d) (decLt x mostTags)) (λ z. omega (arith, between x z))
   go x (no h) (no d) = inside x (omega arith) (omega arith)
 
   pub renamed-part : Relabelled w w′ lo hi
-  renamed-part = record { frame = within-wider 21003 22003 (omega arith) (omega arith) frame; labels = fun-ext (λ x. go x (decLt x from) (decLt top x)) }
+  renamed-part = record { frame = within-wider (allOf LABEL) (omega arith) (omega arith) frame; labels = fun-ext (λ x. go x (decLt x from) (decLt top x)) }

@@ -14,10 +14,12 @@ use Rattle.meaning.specs.Forest.{root}
 use Rattle.meaning.proofs.Log.{grounds-more}
 use Rattle.meaning.proofs.Short.{some-class}
 use Rattle.meaning.proofs.Relabel.{into-hit, into-miss, relabel-classes, Ends}
+use Rattle.meaning.specs.Limits.{mostTags}
 use Rattle.table.specs.Map.{leftOf, rightOf, parentOf, ageOf, whenOf, labelOf, useOf, moreOf, stateOf, chainOf, waitOf, bucketOf, joinBy, joinAt, recordsIn, Within}
 use Rattle.table.proofs.Frame.{seen-within, within-trans, within-wider}
 use Rattle.table_labels.specs.Parts.{Relabelled}
 use Rattle.table.proofs.Kept.{lefts, rights, results, loaded-same}
+use Rattle.table.specs.Places.{AGE, BUCKETS, CHAIN, FIRST, LABEL, Large, MORE, OTHER, PARENT, SECOND, SHARES, USES, WHEN, behindColumns, behindJoins, bucketCount, joinsPart}
 use Rattle.all_index.specs.declared.Front.{Front}
 use Rattle.all_index.specs.Filing.{Filed}
 use Rattle.all_index.specs.Waiting.{Queue}
@@ -69,13 +71,13 @@ module _ {t : Front} {w : List ℕ} {n first k k′ : ℕ} {x y : Side} (J : Joi
   differ q = J .apart (sym (X .label) ∙ S .marks .same a b (sym (X .leader) ∙ q ∙ Y .leader) ∙ Y .label)
 
   -- The bounds that the stores need.
-  pub unite-kept : x .leader .0 < 1000
+  pub unite-kept : x .leader .0 < mostTags
   unite-kept = omega (arith, low-x, S .loaded .few)
 
-  pub unite-gone : y .leader .0 < 1000
+  pub unite-gone : y .leader .0 < mostTags
   unite-gone = omega (arith, low-y, S .loaded .few)
 
-  pub unite-young : n < 1000
+  pub unite-young : n < mostTags
   unite-young = omega (arith, S .total, some-class (t .size) f labels (S .loaded .some), S .loaded .few)
 
   -- A tag of the class that goes stands between its leader and its top.
@@ -126,15 +128,15 @@ module _ {t : Front} {w : List ℕ} {n first k k′ : ℕ} {x y : Side} (J : Joi
     fewer : classes f (t .size) ≡ suc (classes (λ z. into lo hi (f z)) (t .size))
     fewer = relabel-classes f lo hi labels own-lo own-hi less (t .size) high
 
-    low-lo : lo < 1000
+    low-lo : lo < mostTags
     low-lo = omega (arith, less, high, S .loaded .few)
 
-    low-hi : hi < 1000
+    low-hi : hi < mostTags
     low-hi = omega (arith, high, S .loaded .few)
 
     -- The leaders after the join, once its log stands.
-    module _ {w′ : List ℕ} (m u : ℕ) (heavy : 1000 ≤ u) (v : Log w w′ lo hi n k k′ (t .places) m u) where
-      room : suc n ≤ 1000
+    module _ {w′ : List ℕ} (m u : ℕ) (heavy : mostTags ≤ u) (v : Log w w′ lo hi n k k′ (t .places) m u) where
+      room : suc n ≤ mostTags
       room = omega (arith, unite-young)
 
       after : Logged (recordsIn (t .len) w) (upTo (t .places)) (t .places) (put hi lo (parentOf w)) (put hi n (ageOf w)) (put n j (joinAt w)) (put n (t .places) (whenOf w)) (suc n)
@@ -152,7 +154,7 @@ module _ {t : Front} {w : List ℕ} {n first k k′ : ℕ} {x y : Side} (J : Joi
       lead-at : (z : ℕ) → leadOf w′ (suc n) z ≡ into lo hi (f z)
       lead-at z = ap (λ (g : ℕ → ℕ). g z) lead
 
-      unite-standing : Within 12003 32768 w w′ → labelOf w′ ≡ (λ z. into a b (labelOf w z)) → parentOf w lo ≤ m → parentOf w hi ≤ m → (m ≡ parentOf w lo) ⊎ (m ≡ parentOf w hi) → Standing t w′ (suc n)
+      unite-standing : Within behindColumns w w′ → labelOf w′ ≡ (λ z. into a b (labelOf w z)) → parentOf w lo ≤ m → parentOf w hi ≤ m → (m ≡ parentOf w lo) ⊎ (m ≡ parentOf w hi) → Standing t w′ (suc n)
       unite-standing r e c d h = record {
         loaded = loaded-same r (S .loaded);
         reach = S .reach;
@@ -174,29 +176,29 @@ module _ {t : Front} {w : List ℕ} {n first k k′ : ℕ} {x y : Side} (J : Joi
     abbrev hi : ℕ
     hi = K .hi
 
-    before : Within 17003 32768 w w₂
-    before = within-trans (within-wider 17003 32768 (omega arith) (omega arith) (T .frame)) (within-wider 17003 32768 (omega arith) (omega arith) (m .frame))
+    before : Within behindJoins w w₂
+    before = within-trans (within-wider behindJoins (omega arith) (omega arith) (T .frame)) (within-wider behindJoins (omega arith) (omega arith) (m .frame))
 
-    long : 32768 ≤ length w₂
+    long : Large w₂
     long = omega (arith, S .loaded .long, before .size)
 
-    wide : Within 12003 32768 w w₂
-    wide = within-wider 12003 32768 (omega arith) (omega arith) before
+    wide : Within behindColumns w w₂
+    wide = within-wider behindColumns (omega arith) (omega arith) before
 
     log₂ : Log w₂ w₃ lo hi n k k′ (t .places) (K .top) (K .weight)
     log₂ = kept-log w₂ long lo hi n k k′ (t .places) (K .top) (K .weight) (low-lo (K .order)) (low-hi (K .order)) unite-young w₃ (K .stored)
 
-    s : Within 12003 17003 w₂ w₃
+    s : Within joinsPart w₂ w₃
     s = kept-frame w₂ long lo hi n k k′ (t .places) (K .top) (K .weight) (low-lo (K .order)) (low-hi (K .order)) unite-young w₃ (K .stored)
 
-    frame : Within 12003 32768 w w₃
-    frame = within-trans wide (within-wider 12003 32768 (omega arith) (omega arith) s)
+    frame : Within behindColumns w w₃
+    frame = within-trans wide (within-wider behindColumns (omega arith) (omega arith) s)
 
     parent₂ : parentOf w₂ ≡ parentOf w
-    parent₂ = seen-within 12003 1000 (λ x. x) before (inl (omega arith))
+    parent₂ = seen-within PARENT before (inl (omega arith))
 
     join₂ : joinAt w₂ ≡ joinAt w
-    join₂ = fun-ext (λ a. rw (seen-within 14003 1000 (λ x. 0) before (inl (omega arith)), seen-within 15003 1000 (λ x. 0) before (inl (omega arith)), lefts wide, rights wide, results wide))
+    join₂ = fun-ext (λ a. rw (seen-within FIRST before (inl (omega arith)), seen-within SECOND before (inl (omega arith)), lefts wide, rights wide, results wide))
 
     by : joinBy w₂ k k′ ≡ joinBy w k k′
     by = rw (lefts wide, rights wide, results wide)
@@ -204,19 +206,19 @@ module _ {t : Front} {w : List ℕ} {n first k k′ : ℕ} {x y : Side} (J : Joi
     log : Log w w₃ lo hi n k k′ (t .places) (K .top) (K .weight)
     log = record {
       parent = log₂ .parent ∙ ap (λ (p : ℕ → ℕ). put lo (K .top) (put hi lo p)) parent₂;
-      age = log₂ .age ∙ ap (λ (g : ℕ → ℕ). put lo (K .weight) (put hi n g)) (seen-within 13003 1000 (λ x. 1000) before (inl (omega arith)));
+      age = log₂ .age ∙ ap (λ (g : ℕ → ℕ). put lo (K .weight) (put hi n g)) (seen-within AGE before (inl (omega arith)));
       join = log₂ .join ∙ ap (λ (i : Join). put n i (joinAt w₂)) by ∙ ap (put n (joinBy w k k′)) join₂;
-      when = log₂ .when ∙ ap (put n (t .places)) (seen-within 16003 1000 (λ x. 0) before (inl (omega arith)));
+      when = log₂ .when ∙ ap (put n (t .places)) (seen-within WHEN before (inl (omega arith)));
     }
 
     label₁ : labelOf w₁ ≡ labelOf w
-    label₁ = seen-within 21003 1000 (λ x. x) (T .frame) (inl (omega arith))
+    label₁ = seen-within LABEL (T .frame) (inl (omega arith))
 
     label : labelOf w₃ ≡ (λ z. into a b (labelOf w z))
-    label = seen-within 21003 1000 (λ x. x) s (inr (omega arith)) ∙ rw label₁ at (m .labels)
+    label = seen-within LABEL s (inr (omega arith)) ∙ rw label₁ at (m .labels)
 
     state : stateOf w₃ ≡ stateOf w₁
-    state = seen-within 26003 4000 (λ x. 0) s (inr (omega arith)) ∙ seen-within 26003 4000 (λ x. 0) (m .frame) (inr (omega arith))
+    state = seen-within CHAIN s (inr (omega arith)) ∙ seen-within CHAIN (m .frame) (inr (omega arith))
 
     chain : chainOf w₃ ≡ chainOf w₁
     chain = fun-ext (λ r. rw state)
@@ -225,25 +227,25 @@ module _ {t : Front} {w : List ℕ} {n first k k′ : ℕ} {x y : Side} (J : Joi
     after-w = fun-ext (λ r. rw state)
 
     bucket : bucketOf w₃ ≡ bucketOf w₁
-    bucket = seen-within 30003 761 (λ x. 0) s (inr (omega arith)) ∙ seen-within 30003 761 (λ x. 0) (m .frame) (inr (omega arith))
+    bucket = seen-within BUCKETS s (inr (omega arith)) ∙ seen-within BUCKETS (m .frame) (inr (omega arith))
 
     -- The lists of the tags.
     use-kept : (second : Bool) → useOf second w₃ ≡ useOf second w
-    use-kept true = seen-within 31764 1000 (λ x. 0) s (inr (omega arith)) ∙ seen-within 31764 1000 (λ x. 0) (m .frame) (inr (omega arith)) ∙ seen-within 31764 1000 (λ x. 0) (T .frame) (inr (omega arith))
-    use-kept false = seen-within 30764 1000 (λ x. 0) s (inr (omega arith)) ∙ seen-within 30764 1000 (λ x. 0) (m .frame) (inr (omega arith)) ∙ seen-within 30764 1000 (λ x. 0) (T .frame) (inr (omega arith))
+    use-kept true = seen-within SHARES s (inr (omega arith)) ∙ seen-within SHARES (m .frame) (inr (omega arith)) ∙ seen-within SHARES (T .frame) (inr (omega arith))
+    use-kept false = seen-within USES s (inr (omega arith)) ∙ seen-within USES (m .frame) (inr (omega arith)) ∙ seen-within USES (T .frame) (inr (omega arith))
 
     more-kept : (second : Bool) → moreOf second w₃ ≡ moreOf second w
-    more-kept true = seen-within 22003 4000 (λ x. 0) s (inr (omega arith)) ∙ seen-within 22003 4000 (λ x. 0) (m .frame) (inr (omega arith)) ∙ seen-within 22003 4000 (λ x. 0) (T .frame) (inl (omega arith))
-    more-kept false = seen-within 17003 4000 (λ x. 0) s (inr (omega arith)) ∙ seen-within 17003 4000 (λ x. 0) (m .frame) (inl (omega arith)) ∙ seen-within 17003 4000 (λ x. 0) (T .frame) (inl (omega arith))
+    more-kept true = seen-within OTHER s (inr (omega arith)) ∙ seen-within OTHER (m .frame) (inr (omega arith)) ∙ seen-within OTHER (T .frame) (inl (omega arith))
+    more-kept false = seen-within MORE s (inr (omega arith)) ∙ seen-within MORE (m .frame) (inl (omega arith)) ∙ seen-within MORE (T .frame) (inl (omega arith))
 
     used : (second : Bool) → Used second (t .places) w₃
     used second = rw (use-kept second, more-kept second, tags frame second, eqns frame) (J .indexed .uses second)
 
     -- Those that are filed have no argument with the label that goes.
-    narrow : Within 12003 32768 w w₁
-    narrow = within-wider 12003 32768 (omega arith) (omega arith) (T .frame)
+    narrow : Within behindColumns w w₁
+    narrow = within-wider behindColumns (omega arith) (omega arith) (T .frame)
 
-    old : Filed 761 (t .places) (eqnAt w) (keyAt w) (resAt w) (bucketOf w₁) (chainOf w₁)
+    old : Filed bucketCount (t .places) (eqnAt w) (keyAt w) (resAt w) (bucketOf w₁) (chainOf w₁)
     old = rw (eqns narrow, keys-same narrow label₁, ress-same narrow label₁) at (T .filing .filed)
 
     abbrev key′ : ℕ → ℕ
@@ -267,7 +269,7 @@ module _ {t : Front} {w : List ℕ} {n first k k′ : ℕ} {x y : Side} (J : Joi
     pairs : (j r : ℕ) → j < t .places → r < t .places → eqnAt w j ≡ false → eqnAt w r ≡ false → keyAt w r ≡ keyAt w j → key′ r ≡ key′ j
     pairs j r l k _ _ e = let p = key-args (J .standing) j r l k e in rw (p .0, p .1)
 
-    filed : Filed 761 (t .places) (eqnAt w) key′ res′ (bucketOf w₁) (chainOf w₁)
+    filed : Filed bucketCount (t .places) (eqnAt w) key′ res′ (bucketOf w₁) (chainOf w₁)
     filed = renamed old key′ keys res′ pairs (λ j r e. ap (into a b) e)
 
     queue : Queued t w₃ to

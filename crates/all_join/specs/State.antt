@@ -11,7 +11,9 @@ use Rattle.meaning.specs.Joins.{Join, Grounds, Justified, all, numbersOf, used,
 use Rattle.meaning.specs.Labels.{classes}
 use Rattle.meaning.specs.Forest.{root, History}
 use Rattle.meaning.proofs.Exact.{Settled}
+use Rattle.meaning.specs.Limits.{mostTags}
 use Rattle.table.specs.Map.{parentOf, ageOf, whenOf, labelOf, gather, joinBy, joinAt, recordsIn, Loaded, Within}
+use Rattle.table.specs.Places.{AGE, FIRST, PARENT, SECOND, WHEN, behindColumns}
 use Rattle.table_labels.specs.Parts.{Own}
 use Rattle.all_index.specs.declared.Front.{Front}
 use Rattle.all_index.specs.State.{Indexed}
@@ -23,7 +25,7 @@ upTo n = gather suc n
 
 -- The joins kept so far, when the records 1 to `places` are being closed: a log with its forest, and each moment before this one.
 pub record Logged (rs : List Rec) (L : List ℕ) (places : ℕ) (p g : ℕ → ℕ) (e : ℕ → Join) (wh : ℕ → ℕ) (n : ℕ) : Type 0 where
-  pub history : History e n p g 1000
+  pub history : History e n p g mostTags
   pub justified : Justified rs e n
   pub within : (k : ℕ) → List·Memᴰ k (used e all n) → List·Memᴰ k L
   pub made : (a : ℕ) → a < n → (1 ≤ wh a) × (wh a ≤ places)
@@ -74,7 +76,7 @@ pub record Joining (t : Front) (w : List ℕ) (n first k k′ a b : ℕ) : Type 
 
 -- The five stores that keep it.
 abbrev pub noted : List ℕ → ℕ → ℕ → ℕ → ℕ → ℕ → ℕ → List ℕ
-noted w lo hi n k k′ m = set (set (set (set (set w (12003 + hi) lo) (13003 + hi) n) (14003 + n) k) (15003 + n) k′) (16003 + n) m
+noted w lo hi n k k′ m = set (set (set (set (set w (PARENT .at + hi) lo) (AGE .at + hi) n) (FIRST .at + n) k) (SECOND .at + n) k′) (WHEN .at + n) m
 
 -- A class: its label, and the tag that leads it.
 pub record Named (t : Front) (w : List ℕ) (n : ℕ) (s : Side) : Type 0 where
@@ -90,12 +92,12 @@ pub record Kept (w w′ : List ℕ) (n k k′ m x y : ℕ) : Type 0 where
   pub weight : ℕ
   pub order : ((x ≤ y) × (lo ≡ x) × (hi ≡ y)) ⊎ ((y < x) × (lo ≡ y) × (hi ≡ x))
   pub over : (parentOf w x ≤ top) × (parentOf w y ≤ top) × ((top ≡ parentOf w x) ⊎ (top ≡ parentOf w y))
-  pub heavy : 1000 ≤ weight
-  pub stored : w′ ≡ set (set (noted w lo hi n k k′ m) (12003 + lo) top) (13003 + lo) weight
+  pub heavy : mostTags ≤ weight
+  pub stored : w′ ≡ set (set (noted w lo hi n k k′ m) (PARENT .at + lo) top) (AGE .at + lo) weight
 
 -- It was made: what had one label still has, and the two ends have now.
 pub record Joined (t : Front) (w : List ℕ) (n a b : ℕ) (w′ : List ℕ) (first : ℕ) : Type 0 where
-  pub frame : Within 12003 32768 w w′
+  pub frame : Within behindColumns w w′
   pub standing : Standing t w′ (suc n)
   pub indexed : Indexed t w′ first
   pub same : (x y : ℕ) → labelOf w x ≡ labelOf w y → labelOf w′ x ≡ labelOf w′ y

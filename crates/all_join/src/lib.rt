@@ -8,7 +8,9 @@ ghost use mathlib.Core.Path.{_≡_};
 ghost use mathlib.Core.Logic.{_≢_, _⊎_};
 ghost use Prim.Native.Nat.{ℕ, _≤_, _<_};
 ghost use lib.ListN.{length};
+ghost use Rattle.meaning.specs.Limits.{mostTags};
 ghost use Rattle.table.specs.Map.{labelOf};
+ghost use Rattle.table.specs.Places.{Large};
 ghost use Rattle.table_labels.specs.Parts.{Relabelled};
 ghost use Rattle.all_join.specs.State.{Standing, Joining, Joined, Named, Kept, leadOf, noted};
 use all_index::Front;
@@ -31,7 +33,7 @@ fn note(
     lo: Tag,
     hi: Tag,
 )
-    requires { ⌜ (32768 ≤ length (now work)) × (hi .0 < 1000) × (joins < 1000) ⌝ }
+    requires { ⌜ Large (now work) × (hi .0 < mostTags) × (joins < mostTags) ⌝ }
     ensures { λ _. ⌜ now (work .exit) ≡ noted (now (work .entry)) (lo .0) (hi .0) joins (first .0) (second .0) (when .0) ⌝ }
 {
     table::put_link(work, hi, lo, joins);
@@ -40,7 +42,7 @@ fn note(
 
 // The label `gone` becomes `kept`. No tag below `from` has it, nor one above `top`.
 fn rename(work: &mut [u16], kept: Tag, gone: Tag, from: Tag, top: Tag)
-    requires { ⌜ (32768 ≤ length (now work)) × (from .0 ≤ top .0) × (top .0 < 1000) × ((x : ℕ) → labelOf (now work) x ≡ gone .0 → (from .0 ≤ x) × (x ≤ top .0)) ⌝ }
+    requires { ⌜ Large (now work) × (from .0 ≤ top .0) × (top .0 < mostTags) × ((x : ℕ) → labelOf (now work) x ≡ gone .0 → (from .0 ≤ x) × (x ≤ top .0)) ⌝ }
     ensures { λ _. ⌜ Relabelled (now (work .entry)) (now (work .exit)) (kept .0) (gone .0) ⌝ }
 {
     let start = table::LABEL + from.0 as usize;
@@ -60,7 +62,7 @@ fn higher(a: Tag, b: Tag) -> Tag
 
 // The first tag with the label r, which r has itself.
 fn first_with(work: &[u16], r: Tag) -> Tag
-    requires { ⌜ (32768 ≤ length (now work)) × (r .0 < 1000) × (labelOf (now work) (r .0) ≡ r .0) ⌝ }
+    requires { ⌜ Large (now work) × (r .0 < mostTags) × (labelOf (now work) (r .0) ≡ r .0) ⌝ }
     ensures { λ x. ⌜ (labelOf (now (work .entry)) (x .0) ≡ r .0) × ((y : ℕ) → y < x .0 → labelOf (now (work .entry)) y ≢ r .0) ⌝ }
 {
     let mut x: u16 = 0;
@@ -79,7 +81,7 @@ fn class_of(work: &[u16], front: Front, joins: usize, r: Tag) -> Side
     requires { ⌜ Standing front (now work) joins × (r .0 < front .size) × (labelOf (now work) (r .0) ≡ r .0) ⌝ }
     ensures { λ s. ⌜ (s .label .0 ≡ r .0) × (s .leader .0 ≡ leadOf (now (work .entry)) joins (r .0)) ⌝ }
 {
-    if table::age(work, r) >= 1000 {
+    if table::age(work, r) >= meaning::MOST_TAGS {
         return Side {
             label: r,
             leader: r,
@@ -93,7 +95,7 @@ fn class_of(work: &[u16], front: Front, joins: usize, r: Tag) -> Side
 
 // What two classes' ages come to. It only tells which of two has fewer tags, so any number from LEADS on is right.
 fn joint(a: usize, b: usize) -> usize
-    ensures { λ r. ⌜ (1000 ≤ r) × (r < 65536) ⌝ }
+    ensures { λ r. ⌜ (mostTags ≤ r) × (r < 65536) ⌝ }
 {
     if 2000 < a {
         return 2000;
@@ -118,7 +120,7 @@ fn keep(
     x: Tag,
     y: Tag,
 )
-    requires { ⌜ (32768 ≤ length (now work)) × (x .0 < 1000) × (y .0 < 1000) × (joins < 1000) ⌝ }
+    requires { ⌜ Large (now work) × (x .0 < mostTags) × (y .0 < mostTags) × (joins < mostTags) ⌝ }
     ensures { λ _. ⌜ Kept (now (work .entry)) (now (work .exit)) joins (one .0) (other .0) (when .0) (x .0) (y .0) ⌝ }
 {
     let top = higher(table::parent(work, x), table::parent(work, y));
@@ -165,7 +167,7 @@ fn unite(
 
 // Whether the class led by x has fewer tags than that led by y, as their ages tell; where they have as many, the larger leader is taken.
 fn is_fewer(work: &[u16], x: Tag, y: Tag) -> bool
-    requires { ⌜ (32768 ≤ length (now work)) × (x .0 < 1000) × (y .0 < 1000) ⌝ }
+    requires { ⌜ Large (now work) × (x .0 < mostTags) × (y .0 < mostTags) ⌝ }
 {
     let a = table::age(work, x);
     let b = table::age(work, y);

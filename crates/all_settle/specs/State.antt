@@ -5,6 +5,7 @@ use mathlib.Core.Path.{_≡_}
 use mathlib.Core.Bool.{true}
 use mathlib.Core.List.{List}
 use Rattle.table.specs.Map.{leftOf, rightOf, labelOf, chainOf, Within}
+use Rattle.table.specs.Places.{behindColumns}
 use Rattle.all_index.specs.declared.Front.{Front}
 use Rattle.all_index.specs.Waiting.{waiting}
 use Rattle.all_index.specs.State.{eqnAt, keyAt, foundIn, Indexed}
@@ -28,7 +29,7 @@ pub record Unifying (t : Front) (w : List ℕ) (p j n : ℕ) : Type 0 where
 
 -- It was met: n′ joins now, or fewer that wait.
 pub record Gone (t : Front) (w : List ℕ) (n : ℕ) (w′ : List ℕ) (n′ first : ℕ) : Type 0 where
-  pub frame : Within 12003 32768 w w′
+  pub frame : Within behindColumns w w′
   pub state : Open t w′ n′ first
   pub more : n ≤ n′
   pub less : n′ ≡ n → waiting (t .places) (chainOf w′) < waiting (t .places) (chainOf w)

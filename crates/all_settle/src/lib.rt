@@ -5,7 +5,9 @@
 ghost use mathlib.Core.Path.{_≡_};
 ghost use Prim.Native.Nat.{suc, _≤_, _<_};
 ghost use lib.ListN.{length};
+ghost use Rattle.meaning.specs.Limits.{mostRecords, mostTags};
 ghost use Rattle.table.specs.Map.{resultOf, labelOf, Within};
+ghost use Rattle.table.specs.Places.{Large, behindColumns};
 ghost use Rattle.all_settle.specs.State.{Open, Unifying, Gone};
 use all_index::Front;
 use meaning::RecordNo;
@@ -19,7 +21,7 @@ pub struct Progress {
 
 // The label of an application's result.
 fn outcome(work: &[u16], r: RecordNo) -> Tag
-    requires { ⌜ (32768 ≤ length (now work)) × (r .0 ≤ 4000) × (resultOf (now work) (r .0) < 1000) ⌝ }
+    requires { ⌜ Large (now work) × (r .0 ≤ mostRecords) × (resultOf (now work) (r .0) < mostTags) ⌝ }
     ensures { λ l. ⌜ l .0 ≡ labelOf (now (work .entry)) (resultOf (now (work .entry)) (r .0)) ⌝ }
 {
     let t = table::result(work, r);
@@ -73,7 +75,7 @@ fn meet(work: &mut [u16], front: Front, j: usize, joins: usize) -> Progress
 // What waits is met, the first of them each time, until none does. The number of joins then.
 pub fn settle(work: &mut [u16], front: Front, joins: usize, first: usize) -> usize
     requires { ⌜ Open front (now work) joins first ⌝ }
-    ensures { λ r. ⌜ Within 12003 32768 (now (work .entry)) (now (work .exit)) × Open front (now (work .exit)) r 0 × (joins ≤ r) ⌝ }
+    ensures { λ r. ⌜ Within behindColumns (now (work .entry)) (now (work .exit)) × Open front (now (work .exit)) r 0 × (joins ≤ r) ⌝ }
 {
     let mut made = joins;
     let mut to = first;

@@ -14,6 +14,7 @@ use Rattle.job_field.proofs.Items.{stands-few}
 use Rattle.job_field.proofs.Standing.{stands-item, stands-end, stands-first, stands-last, stands-within}
 use Rattle.table.specs.Map.{recordsIn, Within}
 use Rattle.table.proofs.Frame.{within-refl, within-trans}
+use Rattle.table.specs.Places.{scratch}
 use Rattle.report.specs.Report.{Answers, passed, answered, Known, afterRecords, laid}
 use Rattle.report.proofs.Fits.{answers-fits}
 use Rattle.report.proofs.Known.{room-known}
@@ -103,7 +104,7 @@ module _ (job w room : List ℕ) (N len joins at out before : ℕ) (w′ room′
         kept = m .kept;
       }
 
-  asking-on : (w″ : List ℕ) → Within 17003 32096 w′ w″ → Asking job w″ N len joins
+  asking-on : (w″ : List ℕ) → Within scratch w′ w″ → Asking job w″ N len joins
   asking-on w″ f = record { stands = m .asking .stands; size = m .asking .size; short = m .asking .short; few = m .asking .few; records = kept-records f len ∙ m .asking .records; past = kept-past f (m .asking .past) }
 
   -- What the table knows of the job at this moment.

@@ -6,11 +6,13 @@ use mathlib.Core.Path.{_≡_, _∙_, ap}
 use mathlib.Core.List.{List, [], _∷_, _++_}
 use lib.ListN.{length, length-append}
 use Rattle.meaning.proofs.Laws.{idles-most}
+use Rattle.meaning.specs.Limits.{mostRecords}
 use Rattle.job_field.specs.Items.{recordsOf}
 use Rattle.job_field.specs.Reading.{itemsIn}
 use Rattle.table.specs.Map.{recAt, recordsIn}
 use Rattle.table.proofs.Frame.{length-gather, within-trans, within-wider}
 use Rattle.table.proofs.Kept.{records-same}
+use Rattle.table.specs.Places.{behindColumns}
 use Rattle.all_close.specs.Closing.{Closing}
 use Rattle.report.specs.Report.{numbers, field, total, totals, laid}
 use Rattle.report.proofs.Bytes.{length-field, length-numbers}
@@ -24,7 +26,7 @@ module _ {job room w : List ℕ} {N len : ℕ} (r : Ready job room w N len) {w�
   pub asking-after : Asking job w₁ N len joins
   asking-after = record { stands = r .stands; size = r .size; short = r .short; few = r .few; records = records-after; past = c .past }
 
-  pub idle-few : idle ≤ 4000
+  pub idle-few : idle ≤ mostRecords
   idle-few = omega (arith, idles-most (c .idles), length-gather (λ k. recAt w₁ (suc k)) len, r .loaded .most)
 
   module _ {w₂ room₁ : List ℕ} {end : ℕ} (t : Told job w₁ room N len joins w₂ room₁ end) where
@@ -41,5 +43,5 @@ module _ {job room w : List ℕ} {N len : ℕ} (r : Ready job room w N len) {w�
           sound = t .sound f (totals (total (rw (r .size, ← r .few, ← records-after) (c .classes)) (rw (r .size, ← records-after) (c .idles))));
           size = rw (length-append, size, t .reached);
           front = e ∙ laid-then 0 end (t .bytes) f room room₁ (omega (arith, t .reached, t .fits)) (omega (arith, t .reached)) (t .front) ∙ laid-front (t .bytes ++ f) room;
-          kept = within-trans (within-wider 12003 32768 (omega arith) (omega arith) (c .kept)) (within-wider 12003 32768 (omega arith) (omega arith) (t .kept));
+          kept = within-trans (within-wider behindColumns (omega arith) (omega arith) (c .kept)) (within-wider behindColumns (omega arith) (omega arith) (t .kept));
         }

@@ -10,6 +10,7 @@ use Rattle.job_field.specs.Reading.{Field, bad, header, item, end, headIn, item
 use Rattle.job_field.specs.Standing.{Stands, Job}
 use Rattle.table.specs.Map.{recordsIn, Loaded, Within}
 use Rattle.table.specs.Past.{Past}
+use Rattle.table.specs.Places.{behindColumns, scratch}
 use Rattle.report.specs.Report.{Sound, laid}
 use Rattle.answer_ask.specs.Facing.{Facing, Answered}
 
@@ -57,7 +58,7 @@ pub record Midway (job w room : List ℕ) (N len joins at out before : ℕ) (w�
   pub reached : out ≡ length bytes
   pub front : room′ ≡ laid 0 bytes room
   pub fits : out + neededRoom (headIn job) moment rest ≤ length room
-  pub kept : Within 17003 32096 w w′
+  pub kept : Within scratch w w′
 
 -- All questions answered: the totals are left to write, at the end of what stands in the room.
 pub record Told (job w room : List ℕ) (N len joins : ℕ) (w′ room′ : List ℕ) (end : ℕ) : Type 0 where
@@ -67,7 +68,7 @@ pub record Told (job w room : List ℕ) (N len joins : ℕ) (w′ room′ : List
   pub reached : end ≡ length bytes
   pub front : room′ ≡ laid 0 bytes room
   pub fits : end + 7 ≤ length room
-  pub kept : Within 17003 32096 w w′
+  pub kept : Within scratch w w′
 
 -- An accepted job of N tags whose len records stand in the table's columns, and a room that is as large as needed.
 pub record Ready (job room w : List ℕ) (N len : ℕ) : Type 0 where
@@ -85,4 +86,4 @@ pub record Responded (job room w : List ℕ) (room′ w′ : List ℕ) (n : ℕ)
   pub sound : Sound (matterIn job) start (itemsIn job) bytes
   pub size : n ≡ length bytes
   pub front : room′ ≡ bytes ++ drop (length bytes) room
-  pub kept : Within 12003 32768 w w′
+  pub kept : Within behindColumns w w′

@@ -8,6 +8,7 @@ use Rattle.job_field.specs.Items.{Matter, Moment, Question, roomOf, tagsOfQuest
 use Rattle.job_field.specs.Standing.{Below}
 use Rattle.table.specs.Map.{recordsIn, Within}
 use Rattle.table.specs.Past.{Past}
+use Rattle.table.specs.Places.{scratch}
 use Rattle.report.specs.Report.{Answers, Known, afterRecords, laid}
 
 -- A question is met after `before` records: the past stands, its tags are below N, and there is room for its field.
@@ -23,4 +24,4 @@ pub record Answered (w room : List ℕ) (N len before out : ℕ) (q : Question) 
   pub right : (M : Matter) (b : Moment) → Known M b N (recordsIn len w) before → Answers M b q field
   pub front : room′ ≡ laid out field room
   pub reached : end ≡ out + length field
-  pub kept : Within 17003 32096 w w′
+  pub kept : Within scratch w w′

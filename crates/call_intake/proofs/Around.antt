@@ -30,6 +30,7 @@ use denote.Triple.Spec.{tripleOf}
 use denote.Triple.Statement.{Contract}
 use denote.Triple.Clauses.{ensured, lasts}
 use denote.Triple.Walked.{says}
+use Rattle.meaning.specs.Limits.{namedPlaces}
 use Rattle.records.specs.declared.Record.{Record}
 use Rattle.records.specs.Table.{Blanked}
 use Rattle.records.proofs.Rows.{R}
@@ -131,7 +132,7 @@ module _ {M : Type 1} (𝓤 : URA M) (H : Heap 𝓤) (A : Atoms 𝓤) (W : Given
     abbrev pub to-blank : Blank 𝓤 H A mem run .Ghost
     to-blank = (((κc, tt), (qc, tt), tt, (rc γc u, tt), (vC u ∷ [], tt)), tt)
 
-    pub goes-blank : 4000 ≤ length u → ent 𝓤 (⋆ 𝓤 H A (‵ (flft κc qc) ∷ ‵ (MutSlice (named 0) κc R .own (rc γc u) (vC u ∷ [])) ∷ [])) (Blank 𝓤 H A mem run .pre to-blank)
+    pub goes-blank : namedPlaces ≤ length u → ent 𝓤 (⋆ 𝓤 H A (‵ (flft κc qc) ∷ ‵ (MutSlice (named 0) κc R .own (rc γc u) (vC u ∷ [])) ∷ [])) (Blank 𝓤 H A mem run .pre to-blank)
     goes-blank enough =
         qed W (‵ (flft κc qc) ∷ ‵ (MutSlice (named 0) κc R .own (rc γc u) (vC u ∷ [])) ∷ []) ∵ says ! enough $ nothing ! $ move ! (1 ∷ 0 ∷ []) $ join ! $ frame ! $
         nothing ! $ move ! (1 ∷ 0 ∷ []) $ fjoin ! $ done !

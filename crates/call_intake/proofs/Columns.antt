@@ -15,6 +15,7 @@ use Rattle.records.specs.Table.{Blanked}
 use Rattle.records.proofs.Cleared.{blanked-over}
 use Rattle.table.specs.Map.{recordsIn, Loaded}
 use Rattle.table.proofs.Frame.{within-wider, within-refl}
+use Rattle.table.specs.Places.{namedPart}
 use Rattle.records_fill.specs.Handing.{Counts, Handable, Handed}
 use Rattle.call_look.specs.declared.Sight.{Sight}
 use Rattle.call_look.specs.Look as l
@@ -75,4 +76,4 @@ module _ {job : List ℕ} {t : List Record} {w : List ℕ} {s : Sight} {t′ : L
   received-lent q = let y : Read job (length t) (length w) s = looked-lent s (r .looked) q in record { short = y .enough .short; places = y .enough .places; numbers = y .enough .numbers }
 
   pub received-emptied : {w″ : List ℕ} → s .lent ≡ true → Cleared w′ w″ → Emptied t w t′ w″
-  received-emptied q c = record { blanked = r .blanked q; cleared = cleared-after (within-wider 0 32768 (omega arith) (omega arith) (r .frame)) c }
+  received-emptied q c = record { blanked = r .blanked q; cleared = cleared-after (within-wider namedPart (omega arith) (omega arith) (r .frame)) c }

@@ -11,6 +11,7 @@ use Rattle.job_field.specs.Reading.{reading}
 use Rattle.records.specs.declared.Record.{Record}
 use Rattle.records.specs.Table.{Blanked}
 use Rattle.table.specs.Map.{recordsIn, Within, Loaded}
+use Rattle.table.specs.Places.{columnsPart}
 use Rattle.call_look.specs.declared.Sight.{Sight}
 use Rattle.call_look.specs.Look.{Looked}
 
@@ -22,6 +23,6 @@ pub record Received (job : List ℕ) (t : List Record) (w : List ℕ) (s : Sight
   -- after any later answer the named places of the record table are zero
   pub blanked : s .lent ≡ true → Blanked t t′
   -- of the work table nothing but the columns has changed, and they hold the records of an accepted job, with tags below N
-  pub frame : Within 0 12003 w w′
+  pub frame : Within columnsPart w w′
   pub loaded : s .ready ≡ true → Loaded (s .size) (s .records) w′
   pub columns : (H : Head) (items : List Item) → reading job ≡ accepted H items → s .ready ≡ true → recordsIn (s .records) w′ ≡ recordsOf items

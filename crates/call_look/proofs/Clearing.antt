@@ -8,17 +8,19 @@ use mathlib.Core.Logic.{inr}
 use mathlib.Core.List.{List, [], _∷_, _++_}
 use lib.ListN.{length, getD, take, drop, length-append, length-drop, List·getD-append}
 use lib.Seq.{drop-at, length-take-le}
+use Rattle.meaning.specs.Limits.{namedNumbers}
 use Rattle.table.specs.Map.{Within}
+use Rattle.table.specs.Places.{Large, namedPart}
 use Rattle.table_labels.specs.Parts.{Fills}
 use Rattle.call_look.specs.Clear.{Cleared, Returned, kept, cleared}
 
-pub cleared-part : (w p : List ℕ) → 32768 ≤ length w → length p ≡ length (take 32768 w) → Fills p 0 → Cleared w (p ++ drop 32768 w)
+pub cleared-part : (w p : List ℕ) → Large w → length p ≡ length (take namedNumbers w) → Fills p 0 → Cleared w (p ++ drop namedNumbers w)
 cleared-part w p h e z =
-    let n : length p ≡ 32768 = e ∙ length-take-le 32768 w h in
+    let n : length p ≡ namedNumbers = e ∙ length-take-le namedNumbers w h in
     record {
-      size = length-append p (drop 32768 w) ∙ simp length-drop (omega arith);
-      zero = λ i l. List·getD-append p (drop 32768 w) 0 i (omega arith) ∙ z i (omega arith);
-      rest = drop-at p (drop 32768 w) 32768 n;
+      size = length-append p (drop namedNumbers w) ∙ simp length-drop (omega arith);
+      zero = λ i l. List·getD-append p (drop namedNumbers w) 0 i (omega arith) ∙ z i (omega arith);
+      rest = drop-at p (drop namedNumbers w) namedNumbers n;
     }
 
 -- Two lists that agree from k on are one from k on.
@@ -29,11 +31,11 @@ drop-same k (x ∷ xs) [] e h = absurd (omega arith)
 drop-same zero (x ∷ xs) (y ∷ ys) e h = ap₂ _∷_ (h 0 (omega arith)) (drop-same zero xs ys (omega arith) (λ i l. h (suc i) (omega arith)))
 drop-same (suc k) (x ∷ xs) (y ∷ ys) e h = drop-same k xs ys (omega arith) (λ i l. h (suc i) (omega arith))
 
-pub cleared-after : {w w′ w″ : List ℕ} → Within 0 32768 w w′ → Cleared w′ w″ → Cleared w w″
+pub cleared-after : {w w′ w″ : List ℕ} → Within namedPart w w′ → Cleared w′ w″ → Cleared w w″
 cleared-after {w} {w′} f c = record {
   size = c .size ∙ f .size;
   zero = c .zero;
-  rest = c .rest ∙ drop-same 32768 w w′ (f .size) (λ i l. f .same i (inr l));
+  rest = c .rest ∙ drop-same namedNumbers w w′ (f .size) (λ i l. f .same i (inr l));
 }
 
 -- What is given back, by whether the lengths were right.

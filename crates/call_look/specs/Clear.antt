@@ -5,7 +5,7 @@ use mathlib.Core.Path.{_≡_}
 use mathlib.Core.Bool.{Bool, true, false}
 use mathlib.Core.List.{List}
 use lib.ListN.{length, getD, drop}
-use Rattle.job_field.specs.Reading.{namedNumbers}
+use Rattle.meaning.specs.Limits.{namedNumbers}
 
 -- The named places of the work table are zero and the rest is as it was.
 pub record Cleared (w w′ : List ℕ) : Type 0 where

@@ -3,7 +3,8 @@
 use Prim.Native.Nat.{ℕ, _≤_}
 use mathlib.Core.List.{List}
 use lib.ListN.{length}
-use Rattle.job_field.specs.Reading.{longest, namedPlaces, namedNumbers}
+use Rattle.meaning.specs.Limits.{namedNumbers, namedPlaces}
+use Rattle.job_field.specs.Reading.{longest}
 use Rattle.records.specs.declared.Record.{Record}
 use Rattle.records.specs.Table.{Blanked}
 use Rattle.call_look.specs.Clear.{Cleared}

@@ -6,8 +6,9 @@ use mathlib.Core.Logic.{_⊎_}
 use mathlib.Core.Bool.{true, false}
 use mathlib.Core.List.{List}
 use lib.ListN.{length}
+use Rattle.meaning.specs.Limits.{namedNumbers, namedPlaces}
 use Rattle.job_field.specs.Items.{Head, Item, start, refused, accepted, recordsOf, neededRoom}
-use Rattle.job_field.specs.Reading.{reading, longest, namedPlaces, namedNumbers}
+use Rattle.job_field.specs.Reading.{reading, longest}
 use Rattle.call_look.specs.declared.Sight.{Sight}
 
 -- A refusal for lengths alone, which touches no table.

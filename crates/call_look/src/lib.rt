@@ -5,6 +5,7 @@ ghost use lib.ListN.{length};
 ghost use Rattle.call_look.specs.Look.{Viewed, Looked, declined};
 ghost use mathlib.Core.Bool.{true};
 ghost use Prim.Native.Nat.{_≤_};
+ghost use Rattle.table.specs.Places.{Large};
 ghost use Rattle.call_look.specs.Clear.{Cleared, Returned};
 use job_field::number_of;
 use job_read::Answer as Read;
@@ -14,11 +15,11 @@ use table_labels::fill;
 // What is seen before anything is stored: the refusals 1 to 8 in their order, or that the call may go on.
 
 // Document 01's limits: the longest job, and the named places of the record table and of the work table.
-pub const LONGEST: usize = 43008;
+pub const LONGEST: usize = meaning::LONGEST;
 
-pub const PLACES: usize = 4000;
+pub const PLACES: usize = meaning::NAMED_PLACES;
 
-pub const NAMED: usize = 32768;
+pub const NAMED: usize = meaning::NAMED_NUMBERS;
 
 // What is known: whether the lengths are right, without which no table is touched; whether the call may go on, or the refusal; N, the number of
 // records, and the room that the report needs. The last three are 0 for a refusal.
@@ -105,7 +106,7 @@ pub fn look(job: &[u8], places: usize, numbers: usize) -> Sight
 
 // The named places of the work table become zero.
 fn clear(work: &mut [u16])
-    requires { ⌜ 32768 ≤ length (now work) ⌝ }
+    requires { ⌜ Large (now work) ⌝ }
     ensures { λ _. ⌜ Cleared (now (work .entry)) (now (work .exit)) ⌝ }
 {
     fill(&mut work[0..NAMED], 0);
@@ -113,7 +114,7 @@ fn clear(work: &mut [u16])
 
 // They do where the lengths were right; otherwise nothing changes.
 pub fn give_back(work: &mut [u16], lent: bool)
-    requires { ⌜ (lent ≡ true → 32768 ≤ length (now work)) ⌝ }
+    requires { ⌜ (lent ≡ true → Large (now work)) ⌝ }
     ensures { λ _. ⌜ Returned lent (now (work .entry)) (now (work .exit)) ⌝ }
 {
     if lent {

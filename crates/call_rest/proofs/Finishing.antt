@@ -8,10 +8,12 @@ use mathlib.Core.Bool.{true, false}
 use mathlib.Core.Logic.{_⊎_, inl, inr}
 use mathlib.Core.List.{List}
 use lib.ListN.{length}
+use Rattle.meaning.specs.Limits.{namedNumbers}
 use Rattle.job_field.specs.Items.{Item, start, matterOf, Reading, accepted, headOf, itemsOf, recordsOf, neededRoom}
-use Rattle.job_field.specs.Reading.{reading, itemsIn, namedNumbers}
+use Rattle.job_field.specs.Reading.{reading, itemsIn}
 use Rattle.job_field.proofs.Standing.{job-stands}
 use Rattle.table.proofs.Frame.{within-wider}
+use Rattle.table.specs.Places.{namedPart}
 use Rattle.report.specs.Report.{Sound}
 use Rattle.answer_all.specs.Asking as a
 use Rattle.answer_all.specs.Asking.{Responded}
@@ -90,4 +92,4 @@ module _ (job room w : List ℕ) (s : Sight) (h : Begun job w s) where
     finish-done room′ w′ w″ n d x =
         rw (d .size, d .front)
         (f.done (ready-lent s (h .looked) (o .ready)) is enough (subst (λ (x : Reading). Sound (matterOf (headOf x) (itemsOf x)) start (itemsOf x) (d .bytes)) is (d .sound))
-        (cleared-after (within-wider 0 32768 (omega arith) (omega arith) (d .kept)) (returned-true x refl)))
+        (cleared-after (within-wider namedPart (omega arith) (omega arith) (d .kept)) (returned-true x refl)))

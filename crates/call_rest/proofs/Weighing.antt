@@ -9,12 +9,14 @@ use mathlib.Core.List.{List}
 use lib.ListN.{length}
 use Rattle.meaning.specs.Following.{Rec, UpTo}
 use Rattle.meaning.specs.Totals.{Classes, Idles}
+use Rattle.meaning.specs.Limits.{namedNumbers}
 use Rattle.job_field.specs.Items.{Item, start, matterOf, Reading, accepted, headOf, itemsOf, recordsOf}
-use Rattle.job_field.specs.Reading.{reading, itemsIn, namedNumbers}
+use Rattle.job_field.specs.Reading.{reading, itemsIn}
 use Rattle.job_field.proofs.Standing.{job-stands}
 use Rattle.table.specs.Map.{recordsIn}
 use Rattle.table.proofs.Frame.{within-wider, within-trans}
 use Rattle.table.proofs.Kept.{records-same}
+use Rattle.table.specs.Places.{namedPart}
 use Rattle.all_close.specs.Closing.{Closing}
 use Rattle.judge.specs.Judging as g
 use Rattle.judge.specs.Judging.{Judgeable, Judged, Verdict}
@@ -76,7 +78,7 @@ module _ (job report w : List ℕ) (s : Sight) (h : Begun job w s) where
       weigh-done w″ w‴ j b x = go j (subst (λ (x : Reading). Verdict (matterOf (headOf x) (itemsOf x)) start (itemsOf x) 0 report j) reads (b .verdict))
         where
           emptied : Cleared w w‴
-          emptied = cleared-after (within-trans (within-wider 0 32768 (omega arith) (omega arith) (d .kept)) (within-wider 0 32768 (omega arith) (omega arith) (b .kept))) (returned-true x refl)
+          emptied = cleared-after (within-trans (within-wider namedPart (omega arith) (omega arith) (d .kept)) (within-wider namedPart (omega arith) (omega arith) (b .kept))) (returned-true x refl)
 
           go : (i : Judgement) → Verdict (matterOf (viewed .head) (viewed .items)) start (viewed .items) 0 report i → Weighed job report w s (findingOf i .number) (findingOf i .place) w‴
           go i (g.sound o) = c.sound lent reads o emptied

@@ -9,8 +9,8 @@ use mathlib.Core.List.{List, [], _∷_, _++_}
 use lib.ListN.{length, getD, drop}
 use Rattle.meaning.proofs.Decide.{leader-one}
 use Rattle.meaning.proofs.Laws.{classes-one, idles-one, reason-follows}
+use Rattle.meaning.specs.Limits.{namedNumbers, namedPlaces}
 use Rattle.job_field.specs.Items.{Head, Matter, matterOf, Moment, start, after, ask, Item, posed, Reading, refused, accepted, neededRoom}
-use Rattle.job_field.specs.Reading.{namedPlaces, namedNumbers}
 use Rattle.records.specs.declared.Record.{Record}
 use Rattle.records.specs.Table.{blank, Blanked}
 use Rattle.report.specs.Report.{numbers, field, led, because, apart, Totalled, total, Sound, totals, passed, answered}

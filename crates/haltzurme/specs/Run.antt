@@ -6,8 +6,9 @@ use mathlib.Core.Path.{_≡_}
 use mathlib.Core.Logic.{_⊎_}
 use mathlib.Core.List.{List, _++_}
 use lib.ListN.{length, drop}
+use Rattle.meaning.specs.Limits.{namedNumbers, namedPlaces}
 use Rattle.job_field.specs.Items.{Head, Item, start, matterOf, refused, accepted, neededRoom}
-use Rattle.job_field.specs.Reading.{reading, longest, namedPlaces, namedNumbers}
+use Rattle.job_field.specs.Reading.{reading, longest}
 use Rattle.records.specs.declared.Record.{Record}
 use Rattle.report.specs.Report.{Sound}
 use Rattle.call_look.specs.Lent.{Lent, Emptied}

@@ -18,7 +18,7 @@ use records::Record;
 pub fn receive_over(job: &[u8], work: &mut [u16], each: Record) -> Sight
     ensures { λ r. ⌜ ReceivedOver each (now (job .entry)) (now (work .entry)) r (now (work .exit)) ⌝ }
 {
-    let mut records = [each; 4000];
+    let mut records = [each; meaning::NAMED_PLACES];
     receive(job, &mut records, work)
 }
 

@@ -9,8 +9,9 @@ use mathlib.Core.List.{List, [], _∷_}
 use borrow.Author.Tests.{ltb-true, leb-true}
 use lib.Dec.{eqb, ltb, leb}
 use lib.ListN.{length}
+use Rattle.meaning.specs.Limits.{mostQuestions, mostRecords, mostTags}
 use Rattle.job_field.specs.Items.{Head, unsized, headOf, itemsOf, Moment, start, after, Item, noted, posed, standsFor, Reading, refused, accepted, recordsOf, questionsOf}
-use Rattle.job_field.specs.Reading.{Field, bad, header, item, end, fieldAt, byteAt, firstKind, bodyAt, behindAt, checked, mostRecords, mostQuestions, counted, with, behind, onward, readFrom, reading, headIn, itemsIn, first, unknown}
+use Rattle.job_field.specs.Reading.{Field, bad, header, item, end, fieldAt, byteAt, firstKind, bodyAt, behindAt, checked, counted, with, behind, onward, readFrom, reading, headIn, itemsIn, first, unknown}
 use Rattle.job_field.specs.Standing.{Few, Stands, ends, next, Job, Met}
 use Rattle.job_field.proofs.Items.{after-records, after-questions}
 use Rattle.job_field.proofs.Reading.{Passed, checked-passed, field-whole, field-passed, header-first, and-true}
@@ -115,10 +116,10 @@ accepted-stands job H items e = go (checked unsized start (fieldAt job 0)) refl 
     go (bad m) c e = let z : _≡_ {A = ℕ} 0 1 = cc in absurd (omega arith)
     go (header M) c e =
         let p : Passed unsized start (fieldAt job 0) (header M) = checked-passed unsized start (fieldAt job 0) (header M) tt c in
-        let t = and-true (ltb 0 (M .size)) (leb (M .size) 1000) (p .number) in
+        let t = and-true (ltb 0 (M .size)) (leb (M .size) mostTags) (p .number) in
         let v : Rest job M start (behindAt job 0) H items = rest job M (length job) start (behindAt job 0) H items (omega arith) start-few e in
         let low : 0 < M .size = ltb-true 0 (M .size) (t .0) in
-        let high : M .size ≤ 1000 = leb-true (M .size) 1000 (t .1) in
+        let high : M .size ≤ mostTags = leb-true (M .size) mostTags (t .1) in
         rw (v .size) (record { some = omega arith; most = high; records = omega (arith, v .records); questions = omega (arith, v .questions); first = p .is; stands = v .stands })
     go (item i) c e = absurd (no-item-first job i (checked-passed unsized start (fieldAt job 0) (item i) tt c .is))
     go end c e = absurd (no-end-first job (checked-passed unsized start (fieldAt job 0) end tt c .is))

@@ -7,6 +7,7 @@ use mathlib.Core.List.{List, [], _∷_}
 use lib.Dec.{eqb, ltb, leb}
 use lib.ListN.{length, getD}
 use Rattle.meaning.specs.Following.{eq, app}
+use Rattle.meaning.specs.Limits.{mostQuestions, mostRecords, mostTags}
 use Rattle.job_field.specs.Items.{Head, line, Item, noted, posed, ask, explain, standsFor, tagsOf, Moment, start, after, Reading, refused, accepted, unsized, headOf, itemsOf, Matter, matterOf}
 
 -- All numbers are two bytes, high byte first.
@@ -100,13 +101,6 @@ ofKind job at k =
 unfoldable pub fieldAt : List ℕ → ℕ → Field
 fieldAt job at = orElse (leb (at + 3) (length job)) 3 (ofKind job at (kindAt at (byteAt job at)))
 
--- At most 4,000 records and 1,000 questions.
-abbrev pub mostRecords : ℕ
-mostRecords = 4000
-
-abbrev pub mostQuestions : ℕ
-mostQuestions = 1000
-
 -- The records that a note stands for are counted with those before it, and so is a question.
 abbrev pub counted : Moment → Field → Bool
 counted b (bad n) = true
@@ -117,7 +111,7 @@ counted b end = true
 
 -- N is from 1 to 1,000.
 abbrev pub sizeRight : Head → Bool
-sizeRight M = ltb 0 (M .size) && leb (M .size) 1000
+sizeRight M = ltb 0 (M .size) && leb (M .size) mostTags
 
 abbrev pub sized : Field → Bool
 sized (bad n) = true
@@ -187,8 +181,3 @@ abbrev pub longest : List ℕ → ℕ
 longest job = 43008
 
 -- The named places: 4,000 of the record table, 32,768 of the work table. Refusal 2 holds the tables against them.
-abbrev pub namedPlaces : ℕ
-namedPlaces = 4000
-
-abbrev pub namedNumbers : ℕ
-namedNumbers = 32768

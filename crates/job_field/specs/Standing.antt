@@ -4,8 +4,9 @@ use Prim.Native.Nat.{ℕ, _+_, _≤_, _<_}
 use mathlib.Core.Path.{_≡_}
 use mathlib.Core.List.{List, [], _∷_}
 use lib.ListN.{length}
+use Rattle.meaning.specs.Limits.{mostQuestions, mostRecords, mostTags}
 use Rattle.job_field.specs.Items.{Head, Item, tagsOf, Moment, start, accepted, recordsOf, questionsOf, neededRoom}
-use Rattle.job_field.specs.Reading.{fieldAt, header, item, end, behindAt, mostRecords, mostQuestions, reading}
+use Rattle.job_field.specs.Reading.{fieldAt, header, item, end, behindAt, reading}
 
 -- Tags are below N.
 abbrev pub Below : ℕ → List ℕ → Type 0
@@ -27,7 +28,7 @@ pub record Few (b : Moment) : Type 0 where
 -- All that is known of an accepted job.
 pub record Job (job : List ℕ) (H : Head) (items : List Item) : Type 0 where
   pub some : 1 ≤ H .size
-  pub most : H .size ≤ 1000
+  pub most : H .size ≤ mostTags
   pub records : length (recordsOf items) ≤ mostRecords
   pub questions : questionsOf items ≤ mostQuestions
   pub first : fieldAt job 0 ≡ header H

@@ -3,6 +3,7 @@
 ghost use mathlib.Core.Path.{_≡_};
 ghost use mathlib.Core.Bool.{_&&_};
 ghost use lib.Dec.{ltb, leb};
+ghost use Rattle.meaning.specs.Limits.{mostTags};
 ghost use Rattle.job_field.specs.Reading.{orElse, counted, sized, fieldTags, tagged, checked};
 ghost use Rattle.job_field.specs.Answer.{numberOf, noteSaid, questionSaid, said};
 ghost use Rattle.job_field.specs.Items.{noted, posed, after, tagsOfNote, tagsOfQuestion};
@@ -18,11 +19,11 @@ use job_field::wide;
 use meaning::Tag;
 
 // At most so many records, so many questions, and so many tags.
-const MOST_RECORDS: usize = 4000;
+const MOST_RECORDS: usize = meaning::MOST_RECORDS;
 
-const MOST_QUESTIONS: u16 = 1000;
+const MOST_QUESTIONS: u16 = meaning::MOST_QUESTIONS as u16;
 
-const MOST_TAGS: u16 = 1000;
+const MOST_TAGS: u16 = meaning::MOST_TAGS as u16;
 
 // What stands before a field: so many records and questions.
 pub struct Counts {
@@ -65,7 +66,7 @@ fn is_counted(c: Counts, field: Field) -> bool
 }
 
 fn is_size(n: u16) -> bool
-    ensures { λ r. ⌜ r ≡ (ltb 0 n && leb n 1000) ⌝ }
+    ensures { λ r. ⌜ r ≡ (ltb 0 n && leb n mostTags) ⌝ }
 {
     if 0 < n { n <= MOST_TAGS } else { false }
 }

@@ -5,6 +5,7 @@ use Prim.Native.Nat.{ℕ, suc, _+_, _*_, _≤_, _<_}
 use mathlib.Core.Path.{_≡_}
 use mathlib.Core.List.{List}
 use lib.ListN.{length}
+use Rattle.meaning.specs.Limits.{mostTags}
 use Rattle.job_field.specs.Items.{Head, Moment, Reading, refused, accepted, recordsOf, questionsOf, neededRoom}
 use Rattle.job_field.specs.Reading.{readFrom}
 use Rattle.job_field.specs.Standing.{Few}
@@ -29,9 +30,9 @@ tallied fuel job s = tally (momentOf (s .counts)) (s .room) (readFrom fuel job (
 -- What has been seen stands within the job and within the limits.
 pub record Going (job : List ℕ) (s : Seen) : Type 0 where
   pub within : s .at ≤ length job
-  pub size : s .size ≤ 1000
+  pub size : s .size ≤ mostTags
   pub few : Few (momentOf (s .counts))
-  pub room : s .room ≤ 4000 * s .counts .questions
+  pub room : s .room ≤ (4 * mostTags) * s .counts .questions
 
 -- One field more: reading goes on behind it with the same outcome, or that outcome is known.
 pub data Turned (job : List ℕ) (s : Seen) : Turn → Type 0 where

@@ -3,6 +3,7 @@
 ghost use mathlib.Core.Path.{_≡_};
 ghost use Prim.Native.Nat.{_+_, _*_, _-_, _≤_, _<_, min};
 ghost use lib.ListN.{length};
+ghost use Rattle.meaning.specs.Limits.{mostTags};
 ghost use Rattle.job_field.specs.Items.{roomOf};
 ghost use Rattle.job_field.specs.Answer.{questionSaid};
 ghost use Rattle.job_field.specs.Reading.{behind as behindEnd, behindAt, reading};
@@ -76,8 +77,8 @@ fn most_numbers(size: u16, records: u16) -> usize
 
 // The room that a question needs at its moment.
 fn room_of(size: u16, c: Counts, q: Query) -> usize
-    requires { ⌜ size ≤ 1000 ⌝ }
-    ensures { λ r. ⌜ (r ≡ roomOf (record { size = size }) (momentOf c) (questionSaid q)) × (r ≤ 4000) ⌝ }
+    requires { ⌜ size ≤ mostTags ⌝ }
+    ensures { λ r. ⌜ (r ≡ roomOf (record { size = size }) (momentOf c) (questionSaid q)) × (r ≤ 4 * mostTags) ⌝ }
 {
     let most = most_numbers(size, c.records);
     match q {

@@ -14,6 +14,7 @@ use Rattle.job_field.specs.Reading.{behindAt, fieldAt, bad, header, item, end, 
 use Rattle.job_field.specs.Standing.{Below, Met}
 use Rattle.job_field.proofs.Standing.{stands-item, stands-end, stands-not-bad, stands-not-header, stands-within}
 use Rattle.table.specs.Map.{recordsIn, Within}
+use Rattle.table.specs.Places.{LIST, fromTo, scratch}
 use Rattle.moment.proofs.Kept.{kept-records, kept-past}
 use Rattle.report.specs.Report.{numbers, field, Answers, Totalled, total, Sound, totals, passed, answered, Known}
 use Rattle.report.specs.Fault.{Stands, FaultAt, past, behind, wrong as faulty, closing, spare}
@@ -35,7 +36,7 @@ use Rattle.judge.specs.Going.{Going, Turned, on, done, behind as turnBeh
 use Rattle.answer_ask.proofs.Right.{found}
 
 -- The table's data are kept by what writes only from the list on.
-pub judgeable-kept : {job w w′ : List ℕ} {N len joins idle e : ℕ} → Within 17003 e w w′ → Judgeable job w N len joins idle → Judgeable job w′ N len joins idle
+pub judgeable-kept : {job w w′ : List ℕ} {N len joins idle e : ℕ} → Within (fromTo (LIST .at) e) w w′ → Judgeable job w N len joins idle → Judgeable job w′ N len joins idle
 judgeable-kept {len = len} f h = record {
   accepted = h .accepted;
   size = h .size;
@@ -209,6 +210,6 @@ turned-done {a = a} (done {answer = b} v) e = let z : b ≡ a = cc in rw (← z)
 
 -- What is known at each turn of the loop.
 pub record Judging (job report w₀ w : List ℕ) (c : Closed) (s : Stand) : Type 0 where
-  pub kept : Within 17003 32096 w₀ w
+  pub kept : Within scratch w₀ w
   pub judgeable : Judgeable job w (c .size) (c .len) (c .joins) (c .idle)
   pub going : Going job report s

@@ -8,6 +8,7 @@ use Rattle.job_field.specs.Items.{Moment, start, Item, recordsOf}
 use Rattle.job_field.specs.Reading.{headIn, itemsIn, matterIn}
 use Rattle.job_field.specs.Standing.{Stands}
 use Rattle.table.specs.Map.{Within}
+use Rattle.table.specs.Places.{scratch}
 use Rattle.report.specs.Report.{Sound}
 use Rattle.report.specs.Fault.{FaultAt}
 use Rattle.judge.specs.declared.Judgement.{Judgement}
@@ -43,5 +44,5 @@ pub data Turned (job report : List ℕ) (s : Stand) : Turn → Type 0 where
   done : {answer : Judgement} → Verdict (matterIn job) start (itemsIn job) 0 report answer → Turned job report s (Done answer)
 
 pub record Advanced (job report w w′ : List ℕ) (s : Stand) (turn : Turn) : Type 0 where
-  pub kept : Within 17003 32096 w w′
+  pub kept : Within scratch w w′
   pub turned : Turned job report s turn

@@ -7,6 +7,7 @@ use Rattle.job_field.specs.Items.{Matter, Moment, Question, tagsOfQuestion}
 use Rattle.job_field.specs.Standing.{Below}
 use Rattle.table.specs.Map.{recordsIn, Within}
 use Rattle.table.specs.Past.{Past}
+use Rattle.table.specs.Places.{scratch}
 use Rattle.report.specs.Report.{Answers, Known}
 use Rattle.answer_ask.specs.declared.Passed.{Passed}
 use Rattle.answer_ask.specs.Right.{RightAt}
@@ -20,5 +21,5 @@ pub record Testing (report w : List ℕ) (N len joins before place : ℕ) (q : Q
 
 -- The right field stands there or none does, whatever else there is to the job, and only where reasons are looked for has the table changed.
 pub record Tested (report w w′ : List ℕ) (N len before place : ℕ) (q : Question) (answer : Passed) : Type 0 where
-  pub kept : Within 17003 32096 w w′
+  pub kept : Within scratch w w′
   pub right : (M : Matter) (b : Moment) → Known M b N (recordsIn len w) before → RightAt (Answers M b q) report place answer

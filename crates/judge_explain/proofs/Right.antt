@@ -32,6 +32,8 @@ use Rattle.report_read.specs.declared.Front.{Front}
 use Rattle.report_read.specs.declared.Front.the-variants.{Field, Cut}
 use Rattle.report.proofs.Bytes.{length-field, length-numbers, numbers-one, field-one}
 use Rattle.meaning.proofs.Tests.{is-not}
+use Rattle.meaning.specs.Limits.{mostTags}
+use Rattle.table.specs.Places.{mostWaiting, scratch}
 use Rattle.report_read.proofs.Read.{holds-one, field-body, field-room}
 use Rattle.moment.specs.declared.Question.{Question}
 use Rattle.answer_ask.specs.declared.Passed.the-variants.{To, Wrong}
@@ -49,10 +51,10 @@ module _ {N len n : ℕ} {w : List ℕ} (P : Past N len w n) (R s t : ℕ) (l : 
   pub came-same : s ≡ t → Came (recordsIn len w) R s t 0
   came-same e = rw e (record { then = λ _. record { then = same; before = λ n m. absurd (omega arith) }; never = λ m. absurd (omega arith) })
 
-  pub came-never : (b : ℕ) → Met w s t b → 1000 ≤ b → Came (recordsIn len w) R s t (R + 1)
+  pub came-never : (b : ℕ) → Met w s t b → mostTags ≤ b → Came (recordsIn len w) R s t (R + 1)
   came-never b M h = record { then = λ m. absurd (omega arith); never = λ m. met-never P M R l (omega (arith, M .most)) }
 
-  pub came-met : (b k : ℕ) → Met w s t b → b < 1000 → k ≡ whenOf w b → Came (recordsIn len w) R s t k
+  pub came-met : (b k : ℕ) → Met w s t b → b < mostTags → k ≡ whenOf w b → Came (recordsIn len w) R s t k
   came-met b k M h e = rw e (record { then = λ m. met-first P M (met-join P M h); never = met-later P M R l (met-join P M h) })
 
 -- An explain where the equality does not follow has one right field.
@@ -114,8 +116,8 @@ module _ (w report : List ℕ) (at bytes : ℕ) (q : Question) where
     list-is r = numbers-one (r .list) (listIn (bytes / 2) w′) (holds-one report at (numbers (r .list)) (numbers (listIn (bytes / 2) w′))
         (omega (arith, length-numbers (r .list), length-numbers (listIn (bytes / 2) w′), length-gather (listOf w′) (bytes / 2), r .all)) (r .stand) (read .read))
 
-    wide : Within 17003 32096 w w′
-    wide = within-wider 17003 32096 (omega arith) (omega arith) (read .kept)
+    wide : Within scratch w w′
+    wide = within-wider scratch (omega arith) (omega arith) (read .kept)
 
     pub reason-falls : (Rising (listIn (bytes / 2) w′) k → ⊥) → Deciding (Reasoned w report at bytes q) w w′ false
     reason-falls h = record { kept = wide; exact = is-not (λ r. h (rw (list-is r) at (reason-rising (K .first) (r .reason) (ℕ-discrete (q .s .0) (q .t .0))))) }
@@ -155,10 +157,10 @@ module _ (w report : List ℕ) (at bytes : ℕ) (q : Question) where
           }
 
 -- A reason that was found: where the bytes say it, they are those of a reason, and no test is left.
-pub own-few : {N : ℕ} {rs : List Rec} {R s t : ℕ} (n : ℕ) (w : List ℕ) → N ≤ 1000 → Reason N rs R s t (listIn n w) → n ≤ 1998
+pub own-few : {N : ℕ} {rs : List Rec} {R s t : ℕ} (n : ℕ) (w : List ℕ) → N ≤ mostTags → Reason N rs R s t (listIn n w) → n ≤ mostWaiting
 own-few n w l r = omega (arith, reason-short r, length-gather (listOf w) n)
 
-module _ {w w′ report : List ℕ} {at bytes : ℕ} {q : Question} (f : Within 17003 32096 w w′) where
+module _ {w w′ report : List ℕ} {at bytes : ℕ} {q : Question} (f : Within scratch w w′) where
   pub own-not : Assuring (Reasoned w report at bytes q) w w′ false
   own-not = record { kept = f; sure = λ e. let z : _≡_ {A = ℕ} 0 1 = cc in absurd (omega arith) }
 
@@ -170,10 +172,10 @@ pub reason-sure : {A : Type 0} {w w′ : List ℕ} {answer : Bool} → Assuring 
 reason-sure h e = record { kept = h .kept; exact = (λ t. h .sure e, λ a. refl) }
 
 -- Where they do not say it, the tests go on with the table that the finding left.
-pub known-kept : {w w′ : List ℕ} {q : Question} {k : ℕ} → Within 17003 32096 w w′ → Known w q k → Known w′ q k
+pub known-kept : {w w′ : List ℕ} {q : Question} {k : ℕ} → Within scratch w w′ → Known w q k → Known w′ q k
 known-kept {q = q} f K = record { posed = posed-kept f (K .posed); early = K .early; first = rw (kept-records f (q .len)) (K .first) }
 
-pub reason-later : {w w′ w″ report : List ℕ} {at bytes : ℕ} {q : Question} {answer : Bool} → Within 17003 32096 w w′ → Deciding (Reasoned w′ report at bytes q) w′ w″ answer
+pub reason-later : {w w′ w″ report : List ℕ} {at bytes : ℕ} {q : Question} {answer : Bool} → Within scratch w w′ → Deciding (Reasoned w′ report at bytes q) w′ w″ answer
     → Deciding (Reasoned w report at bytes q) w w″ answer
 reason-later {q = q} f d = record {
   kept = within-trans f (d .kept);
@@ -218,13 +220,13 @@ module _ (w report : List ℕ) (at : ℕ) (q : Question) {k : ℕ} (K : Known w 
     pub because-other : kind ≢ 132 → Explained w w report at q Wrong
     because-other h = record { kept = within-refl w; right = wrong (λ x. let r = reason-found x in h (fields-one report at kind 132 (f .body) (numbers (r .0)) (f .holds) (r .2) .0)) }
 
-    pub because-right : {w′ : List ℕ} → kind ≡ 132 → Within 17003 32096 w w′ → Reasoned w report (at + 3) size q → Explained w w′ report at q (To (at + 3 + size))
+    pub because-right : {w′ : List ℕ} → kind ≡ 132 → Within scratch w w′ → Reasoned w report (at + 3) size q → Explained w w′ report at q (To (at + 3 + size))
     because-right {w′} e g r =
         let b : f .body ≡ numbers (r .list) = holds-one report (at + 3) (f .body) (numbers (r .list)) (f .long ∙ sym (r .all) ∙ sym (length-numbers (r .list))) (field-body report at kind (f .body) (f .holds)) (r .stand) in
         let h : Holds report at (field 132 (numbers (r .list))) = rw (b, e) at (f .holds) in
         record { kept = g; right = to {p = at + 3 + size} (because (r .reason)) h (omega (arith, length-field 132 (numbers (r .list)), length-numbers (r .list), r .all)) }
 
-    pub because-wrong : {w′ : List ℕ} → Within 17003 32096 w w′ → (Reasoned w report (at + 3) size q → ⊥) → Explained w w′ report at q Wrong
+    pub because-wrong : {w′ : List ℕ} → Within scratch w w′ → (Reasoned w report (at + 3) size q → ⊥) → Explained w w′ report at q Wrong
     because-wrong {w′} g h = record { kept = g; right = wrong (λ x. let r = reason-found x in go (r .0) (r .1) (r .2) (fields-one report at kind 132 (f .body) (numbers (r .0)) (f .holds) (r .2) .1)) }
       where
         go : (L : List ℕ) → Reason (q .size) (recordsIn (q .len) w) (q .before) (q .s .0) (q .t .0) L → Holds report at (field 132 (numbers L)) → f .body ≡ numbers L → ⊥

@@ -9,6 +9,7 @@ use Rattle.meaning.specs.Following.{Rec, Follows, UpTo}
 use Rattle.meaning.specs.Reasons.{FirstAt, Reason}
 use Rattle.job_field.specs.Items.{explain}
 use Rattle.table.specs.Map.{recordsIn, Within}
+use Rattle.table.specs.Places.{scratch}
 use Rattle.report.specs.Report.{numbers, Answers, tabled, afterRecords}
 use Rattle.report_read.specs.Read.{Holds}
 use Rattle.moment.specs.declared.Question.{Question}
@@ -27,12 +28,12 @@ ExplainAnswer w q = Answers (tabled (q .size) (recordsIn (q .len) w)) (afterReco
 
 -- A test that is right where it says A, and writes only where a reason is looked for.
 pub record Assuring (A : Type 0) (w w′ : List ℕ) (answer : Bool) : Type 0 where
-  pub kept : Within 17003 32096 w w′
+  pub kept : Within scratch w w′
   pub sure : answer ≡ true → A
 
 -- An explain was looked at.
 pub record Explained (w w′ report : List ℕ) (at : ℕ) (q : Question) (answer : Passed) : Type 0 where
-  pub kept : Within 17003 32096 w w′
+  pub kept : Within scratch w w′
   pub right : RightAt (ExplainAnswer w q) report at answer
 
 -- So many bytes at the place are the numbers of a reason.

@@ -23,7 +23,7 @@ fn came(work: &[u16], q: Question) -> usize
         return 0;
     }
     let b = moment::met(work, s, t);
-    if b >= 1000 {
+    if b >= meaning::MOST_TAGS {
         return q.before + 1;
     }
     moment::made(work, b)

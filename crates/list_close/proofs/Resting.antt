@@ -15,6 +15,7 @@ use Rattle.table.specs.Map.{listOf, labelOf, gather, recordsIn, listIn, Within}
 use Rattle.table.proofs.Frame.{seen-within, within-trans, within-wider}
 use Rattle.table_labels.specs.Parts.{Fresh, Preserved, Restored}
 use Rattle.table.proofs.Kept.{records-same}
+use Rattle.table.specs.Places.{LABEL, LEFT, LIST, MARKS, RESULT, RIGHT, allOf, beforeMarks, closurePart, fromTo, spare}
 use Rattle.table_labels.proofs.Views.{few-room, fresh-labels, fresh-total}
 use Rattle.list_close.specs.Closing.{Listed, Entailing, Saved, Holding}
 use Rattle.list_pass.specs.declared.Task.{Task}
@@ -27,7 +28,7 @@ use Rattle.list_pass.proofs.Uniting.{listed-same}
 -- A list on its own.
 pub entails-start : {N len n : ℕ} {w w′ : List ℕ} {t : Task} → t ≡ apart N len n (leb n 60) → Listed N len n w → Fresh w w′ → State t w′ 0
 entails-start {N} {len} {n} {w} {w′} e h f = rw e (record {
-  listed = listed-same (within-wider 12003 30096 (omega arith) (omega arith) (f .frame)) (seen-within 17003 4000 (λ x. 0) (f .frame) (inl (omega arith))) h;
+  listed = listed-same (within-wider beforeMarks (omega arith) (omega arith) (f .frame)) (seen-within LIST (f .frame) (inl (omega arith))) h;
   room = few-room n (h .short);
   labels = fresh-labels (fun-ext (f .labels));
   sound = λ x. rw (f .labels x) same;
@@ -45,25 +46,25 @@ resume-start {N} {len} {n} {j} {w} {w′} e h v r = rw e (record {
   own = rw (r .labels) (v .own);
 })
   where
-    wide : Within 12003 30096 w w′
-    wide = within-wider 12003 30096 (omega arith) (omega arith) (r .frame)
+    wide : Within beforeMarks w w′
+    wide = within-wider beforeMarks (omega arith) (omega arith) (r .frame)
 
     list : listOf w′ ≡ listOf w
-    list = seen-within 17003 4000 (λ x. 0) (r .frame) (inl (omega arith))
+    list = seen-within LIST (r .frame) (inl (omega arith))
 
 -- Labels that are sound and closed under the list's records decide what follows from them.
-module _ {N len n j j′ : ℕ} {w w′ w″ : List ℕ} {t : Task} {few : Bool} (e : t ≡ apart N len n few) (f : Within 21003 22003 w w′) (rested : Rested t w′ j w″ j′) where
+module _ {N len n j j′ : ℕ} {w w′ w″ : List ℕ} {t : Task} {few : Bool} (e : t ≡ apart N len n few) (f : Within (allOf LABEL) w w′) (rested : Rested t w′ j w″ j′) where
   r : Rested (apart N len n few) w′ j w″ j′
   r = rw e at rested
 
-  pub rested-frame : Within 21003 30096 w w″
-  rested-frame = within-trans (within-wider 21003 30096 (omega arith) (omega arith) f) (r .kept)
+  pub rested-frame : Within closurePart w w″
+  rested-frame = within-trans (within-wider closurePart (omega arith) (omega arith) f) (r .kept)
 
-  wide : Within 12003 30096 w w″
-  wide = within-wider 12003 30096 (omega arith) (omega arith) rested-frame
+  wide : Within beforeMarks w w″
+  wide = within-wider beforeMarks (omega arith) (omega arith) rested-frame
 
   lists : listIn n w″ ≡ listIn n w
-  lists = ap (λ (g : ℕ → ℕ). gather g n) (seen-within 17003 4000 (λ x. 0) rested-frame (inl (omega arith)))
+  lists = ap (λ (g : ℕ → ℕ). gather g n) (seen-within LIST rested-frame (inl (omega arith)))
 
   pub rested-sound : (x : ℕ) → Follows (Only (recordsIn len w) (listIn n w)) x (labelOf w″ x)
   rested-sound x = rw (← records-same wide len, ← lists) (r .state .sound x)
@@ -82,8 +83,8 @@ module _ {N len n j j′ : ℕ} {w w′ w″ : List ℕ} {t : Task} {few : Bool}
 
   pub hold-done : {w‴ : List ℕ} {x y : ℕ} {a : Bool} → Preserved w″ w‴ → a ≡ eqb (labelOf w‴ x) (labelOf w‴ y) → Holding N len n x y w w‴ j′ a
   hold-done {w‴} {x} {y} p q = record {
-    kept = within-trans (within-wider 21003 32096 (omega arith) (omega arith) rested-frame) (within-wider 21003 32096 (omega arith) (omega arith) (p .frame));
-    marks = seen-within 30096 1000 (λ x. 0) (p .frame) (inl (omega arith)) ∙ seen-within 30096 1000 (λ x. 0) rested-frame (inr (omega arith));
+    kept = within-trans (within-wider (fromTo (LABEL .at) spare) (omega arith) (omega arith) rested-frame) (within-wider (fromTo (LABEL .at) spare) (omega arith) (omega arith) (p .frame));
+    marks = seen-within MARKS (p .frame) (inl (omega arith)) ∙ seen-within MARKS rested-frame (inr (omega arith));
     saved = record {
       labels = rw (p .saved) (r .state .labels);
       sound = λ x. rw (records, p .saved) (rested-sound x);
@@ -95,7 +96,7 @@ module _ {N len n j j′ : ℕ} {w w′ w″ : List ℕ} {t : Task} {few : Bool}
   }
     where
       label : labelOf w‴ ≡ labelOf w″
-      label = seen-within 21003 1000 (λ x. x) (p .frame) (inl (omega arith))
+      label = seen-within LABEL (p .frame) (inl (omega arith))
 
       records : recordsIn len w‴ ≡ recordsIn len w
-      records = rw (seen-within 0 4001 (λ x. 0) (p .frame) (inl (omega arith)), seen-within 4001 4001 (λ x. 0) (p .frame) (inl (omega arith)), seen-within 8002 4001 (λ x. 0) (p .frame) (inl (omega arith))) (records-same wide len)
+      records = rw (seen-within LEFT (p .frame) (inl (omega arith)), seen-within RIGHT (p .frame) (inl (omega arith)), seen-within RESULT (p .frame) (inl (omega arith))) (records-same wide len)

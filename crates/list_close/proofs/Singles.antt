@@ -10,12 +10,14 @@ use mathlib.Core.List.{List}
 use lib.Dec.{leb}
 use lib.ListN.{length, set}
 use Rattle.meaning.specs.Joins.{put}
+use Rattle.meaning.specs.Limits.{mostRecords}
 use Rattle.table.specs.Map.{leftOf, rightOf, listOf, labelOf, savedOf, headOf, Within}
 use Rattle.table.proofs.Frame.{seen-within, within-trans, within-wider}
 use Rattle.table_labels.specs.Chain.{look}
 use Rattle.table_labels.specs.Parts.{reach, width, nextIn, headIn, Cleared, Restored}
 use Rattle.table_labels.proofs.Chain.{chains-none, filled-none, below, chains-insert, filled-insert}
 use Rattle.table.proofs.Kept.{lefts, rights}
+use Rattle.table.specs.Places.{HEADS, LABEL, LIST, Large, NEXT, beforeMarks, chainPart, closurePart}
 use Rattle.table_labels.proofs.Views.{bucket-low, head-is, few-room, put-frame, put-heads, put-nexts}
 use Rattle.list_pass.specs.declared.Task.{Task}
 use Rattle.list_close.specs.Closing.{Listed, Telling}
@@ -24,7 +26,7 @@ use Rattle.list_close.specs.State.{apart, Singled}
 use Rattle.list_pass.proofs.Uniting.{listed-same}
 use Rattle.list_pass.proofs.Views.{keys-same}
 
-pub alone-room : {N len n : ℕ} {t : Task} → t ≡ apart N len n (leb n 60) → n ≤ 4000 → t .places ≤ reach (t .few)
+pub alone-room : {N len n : ℕ} {t : Task} → t ≡ apart N len n (leb n 60) → n ≤ mostRecords → t .places ≤ reach (t .few)
 alone-room {n = n} e l = rw e (few-room n l)
 
 pub single-none : {t : Task} {w w′ : List ℕ} → t .places ≤ reach (t .few) → Cleared (t .few) w w′ → Singled t w′ 0
@@ -36,11 +38,11 @@ single-none {t} {w} {w′} l c = record {
 }
 
 -- Place i, whose key was not found, goes into the table.
-module _ {t : Task} {w : List ℕ} {i : ℕ} (s : Singled t w i) (long : 32768 ≤ length w) (place : i < t .places) (z : linkIn t w i ≡ 0) where
+module _ {t : Task} {w : List ℕ} {i : ℕ} (s : Singled t w i) (long : Large w) (place : i < t .places) (z : linkIn t w i ≡ 0) where
   room : i < reach (t .few)
   room = omega (arith, place, s .room)
 
-  new : (w′ : List ℕ) → w′ ≡ set (set w (22003 + i) (headIn (t .few) w (keyOf w i % width (t .few)))) (26003 + keyOf w i % width (t .few)) (i + 1) → Within 22003 30096 w w′ × Singled t w′ (suc i)
+  new : (w′ : List ℕ) → w′ ≡ set (set w (NEXT .at + i) (headIn (t .few) w (keyOf w i % width (t .few)))) (HEADS .at + keyOf w i % width (t .few)) (i + 1) → Within chainPart w w′ × Singled t w′ (suc i)
   new w′ e = (
     frame,
     record {
@@ -51,7 +53,7 @@ module _ {t : Task} {w : List ℕ} {i : ℕ} (s : Singled t w i) (long : 32768 �
     },
   )
     where
-      frame : Within 22003 30096 w w′
+      frame : Within chainPart w w′
       frame = put-frame (t .few) w w′ i (keyOf w i % width (t .few)) long room (bucket-low (t .few) (keyOf w i)) e
 
       heads : headIn (t .few) w′ ≡ put (keyOf w i % width (t .few)) (suc i) (headIn (t .few) w)
@@ -66,25 +68,25 @@ module _ {t : Task} {w : List ℕ} {i : ℕ} (s : Singled t w i) (long : 32768 �
       other : (j : ℕ) → j < i → keyOf w j ≢ keyOf w i
       other j l q = let g = s .filled .found j l refl in let y : look (width (t .few)) (keyOf w) (headIn (t .few) w) (nextIn (t .few) w) (keyOf w j) ≡ 0 = rw q z in omega arith
 
-  pub single-new : (w′ : List ℕ) (b : ℕ) → b ≡ bucketIn t w i → w′ ≡ set (set w (22003 + i) (headOf w b)) (26003 + b) (i + 1) → Within 22003 30096 w w′ × Singled t w′ (i + 1)
+  pub single-new : (w′ : List ℕ) (b : ℕ) → b ≡ bucketIn t w i → w′ ≡ set (set w (NEXT .at + i) (headOf w b)) (HEADS .at + b) (i + 1) → Within chainPart w w′ × Singled t w′ (i + 1)
   single-new w′ b eb e = rw add-one (new w′ (rw (head-is (t .few) w (bucketIn t w i) (bucket-low (t .few) (keyOf w i))) at (rw eb at e)))
 
 pub single-finding : {t : Task} {w : List ℕ} {i : ℕ} → Listed (t .size) (t .len) (t .places) w → Singled t w i → i < t .places → Finding t w i
 single-finding h s l = record { listed = h; place = l; room = s .room; heads = s .chains .heads; falls = s .chains .falls }
 
 -- From the list as it was: what `single` needs, and what it tells in the end.
-module _ {N len n : ℕ} {t : Task} {w w₁ w₂ : List ℕ} (e : t ≡ apart N len n (leb n 60)) (h : Listed N len n w) (r : Restored w w₁) (f : Within 22003 30096 w₁ w₂) where
-  pub single-frame : Within 21003 30096 w w₂
-  single-frame = within-trans (within-wider 21003 30096 (omega arith) (omega arith) (r .frame)) (within-wider 21003 30096 (omega arith) (omega arith) f)
+module _ {N len n : ℕ} {t : Task} {w w₁ w₂ : List ℕ} (e : t ≡ apart N len n (leb n 60)) (h : Listed N len n w) (r : Restored w w₁) (f : Within chainPart w₁ w₂) where
+  pub single-frame : Within closurePart w w₂
+  single-frame = within-trans (within-wider closurePart (omega arith) (omega arith) (r .frame)) (within-wider closurePart (omega arith) (omega arith) f)
 
-  wide : Within 12003 30096 w w₂
-  wide = within-wider 12003 30096 (omega arith) (omega arith) single-frame
+  wide : Within beforeMarks w w₂
+  wide = within-wider beforeMarks (omega arith) (omega arith) single-frame
 
   list : listOf w₂ ≡ listOf w
-  list = seen-within 17003 4000 (λ x. 0) single-frame (inl (omega arith))
+  list = seen-within LIST single-frame (inl (omega arith))
 
   label : labelOf w₂ ≡ savedOf w
-  label = seen-within 21003 1000 (λ x. x) f (inl (omega arith)) ∙ r .labels
+  label = seen-within LABEL f (inl (omega arith)) ∙ r .labels
 
   pub single-listed : Listed (t .size) (t .len) (t .places) w₂
   single-listed = rw e (listed-same wide list h)

@@ -9,6 +9,7 @@ ghost use Prim.Native.Nat.{_+_, _<_};
 ghost use lib.Dec.{leb};
 ghost use mathlib.Core.Bool.{true};
 ghost use Rattle.table.specs.Map.{listIn, Within};
+ghost use Rattle.table.specs.Places.{chainPart};
 ghost use Rattle.list_close.specs.State.{apart, Singled};
 ghost use Rattle.list_close.specs.Closing.{Listed, Entailing, Saved, Holding, Telling};
 use list_pass::Task;
@@ -80,7 +81,7 @@ pub fn resume(
 // Whether no place before i has the argument labels of place i, which goes into the table then.
 fn single(work: &mut [u16], task: Task, i: usize) -> bool
     requires { ⌜ Listed (task .size) (task .len) (task .places) (now work) × Singled task (now work) i × (i < task .places) ⌝ }
-    ensures { λ r. ⌜ Within 22003 30096 (now (work .entry)) (now (work .exit)) × (r ≡ true → Singled task (now (work .exit)) (i + 1)) ⌝ }
+    ensures { λ r. ⌜ Within chainPart (now (work .entry)) (now (work .exit)) × (r ≡ true → Singled task (now (work .exit)) (i + 1)) ⌝ }
 {
     let f = list_pass::find(work, task, i);
     if f.link != 0 {

@@ -9,6 +9,7 @@ use mathlib.Core.List.{List, List·Memᴰ}
 use Rattle.meaning.specs.Following.{eq, app, At, Only}
 use Rattle.meaning.proofs.Close.{Closed, closed-by}
 use Rattle.meaning.proofs.Reference.{Small}
+use Rattle.meaning.specs.Limits.{mostRecords}
 use Rattle.table.specs.Map.{leftOf, rightOf, resultOf, listOf, labelOf, recAt, recordsIn, listIn}
 use Rattle.table.proofs.Frame.{length-gather, getD-gather, gather-in, in-gather}
 use Rattle.table_labels.specs.Chain.{look}
@@ -36,7 +37,7 @@ module _ {N len n : ℕ} {w : List ℕ} (h : Listed N len n w) (i : ℕ) (l : i 
   pub row-result : eqnOf w i ≡ false → resultOf w (listOf w i) < N
   row-result e = result-small N (eqnOf w i) (leftOf w (listOf w i)) (rightOf w (listOf w i)) (resultOf w (listOf w i)) e small
 
-  pub row-most : listOf w i ≤ 4000
+  pub row-most : listOf w i ≤ mostRecords
   row-most = omega (arith, h .named i l, h .loaded .most)
 
   pub row-readable : (k : ℕ) → k ≡ listOf w i → Readable w k

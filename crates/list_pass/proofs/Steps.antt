@@ -12,6 +12,7 @@ use lib.Dec.{eqb}
 use lib.ListN.{length, set}
 use Rattle.meaning.specs.Following.{app, Follows, flip, chain, given, congruent, Only}
 use Rattle.meaning.specs.Joins.{put}
+use Rattle.meaning.specs.Limits.{mostRecords}
 use Rattle.table.specs.Map.{leftOf, rightOf, resultOf, listOf, labelOf, headOf, recordsIn, listIn, Within}
 use Rattle.table.proofs.Frame.{seen-within, within-refl, within-trans, within-wider}
 use Rattle.table_labels.specs.Chain.{seekTo, hits, look}
@@ -19,6 +20,7 @@ use Rattle.table_labels.specs.Parts.{Cleared, reach, width, nextTo, nextIn, hea
 use Rattle.table_labels.proofs.Chain.{chains-none, filled-none, chains-up, below, look-hit, filled-pass, filled-skip, chains-insert, filled-insert}
 use Rattle.table_labels.proofs.Rows.{split-key}
 use Rattle.table.proofs.Kept.{results}
+use Rattle.table.specs.Places.{EQUATION, HEADS, LIST, Large, NEXT, beforeMarks, chainPart, headCount}
 use Rattle.table_labels.proofs.Views.{bucket-low, width-most, head-is, cut-falls, seek-cut, put-frame, put-heads, put-nexts}
 use Rattle.list_pass.specs.declared.Task.{Task}
 use Rattle.list_pass.specs.Uniting.{State, Meeting, Met}
@@ -37,11 +39,11 @@ module _ {t : Task} {w : List ℕ} {i n : ℕ} (s : Stepping t w i n) where
     valid = λ e h. let l = m .level e in rw (l .0) (v (l .1) h);
   }
     where
-      wide : Within 12003 30096 w w′
-      wide = within-wider 12003 30096 (omega arith) (omega arith) (m .kept)
+      wide : Within beforeMarks w w′
+      wide = within-wider beforeMarks (omega arith) (omega arith) (m .kept)
 
       eqns : eqnOf w′ ≡ eqnOf w
-      eqns = fun-ext (λ i. rw (results wide, seen-within 17003 4000 (λ x. 0) (m .kept) (inl (omega arith))))
+      eqns = fun-ext (λ i. rw (results wide, seen-within LIST (m .kept) (inl (omega arith))))
 
   -- The equation at place i.
   module _ (q : eqnOf w i ≡ true) {k x y : ℕ} (ek : k ≡ listOf w i) (ex : x ≡ leftOf w k) (ey : y ≡ rightOf w k) where
@@ -104,7 +106,7 @@ module _ {t : Task} {w : List ℕ} {p i n : ℕ} (u : Unifying t w p i n) where
 
 -- An application that is not found.
 module _ {t : Task} {w : List ℕ} {i n : ℕ} (s : Stepping t w i n) (q : eqnOf w i ≡ false) where
-  pub apply-new : (w′ : List ℕ) → w′ ≡ set (set w (22003 + i) (headIn (t .few) w (keyOf w i % width (t .few)))) (26003 + keyOf w i % width (t .few)) (i + 1)
+  pub apply-new : (w′ : List ℕ) → w′ ≡ set (set w (NEXT .at + i) (headIn (t .few) w (keyOf w i % width (t .few)))) (HEADS .at + keyOf w i % width (t .few)) (i + 1)
       → linkIn t w i ≡ 0 → Stepped t w i n w′ n
   apply-new w′ e z = record {
     state = chains-state frame (s .state);
@@ -120,7 +122,7 @@ module _ {t : Task} {w : List ℕ} {i n : ℕ} (s : Stepping t w i n) (q : eqnOf
       room : i < reach (t .few)
       room = omega (arith, s .place, s .state .room)
 
-      frame : Within 22003 30096 w w′
+      frame : Within chainPart w w′
       frame = put-frame (t .few) w w′ i (keyOf w i % width (t .few)) (s .state .listed .loaded .long) room (bucket-low (t .few) (keyOf w i)) e
 
       heads : headIn (t .few) w′ ≡ put (keyOf w i % width (t .few)) (suc i) (headIn (t .few) w)
@@ -133,7 +135,7 @@ module _ {t : Task} {w : List ℕ} {i n : ℕ} (s : Stepping t w i n) (q : eqnOf
       equal v = equals-same frame (suc i) (below (λ j. eqnOf w j ≡ true → labelOf w (leftOf w (listOf w j)) ≡ labelOf w (rightOf w (listOf w j))) i (v .equal) (λ r. absurd (true≢false (sym r ∙ q))))
 
   -- The same, of the bucket and the link as they were found.
-  pub apply-insert : (w′ : List ℕ) (b p : ℕ) → b ≡ bucketIn t w i → p ≡ linkIn t w i → p ≡ 0 → w′ ≡ set (set w (22003 + i) (headOf w b)) (26003 + b) (i + 1) → Stepped t w i n w′ n
+  pub apply-insert : (w′ : List ℕ) (b p : ℕ) → b ≡ bucketIn t w i → p ≡ linkIn t w i → p ≡ 0 → w′ ≡ set (set w (NEXT .at + i) (headOf w b)) (HEADS .at + b) (i + 1) → Stepped t w i n w′ n
   apply-insert w′ b p eb ep z e = apply-new w′ (rw (head-is (t .few) w (bucketIn t w i) (bucket-low (t .few) (keyOf w i))) at (rw eb at e)) (sym ep ∙ z)
 
 pub stepping-finding : {t : Task} {w : List ℕ} {i n : ℕ} → Stepping t w i n → Finding t w i
@@ -142,9 +144,9 @@ stepping-finding s = record { listed = s .state .listed; place = s .place; room 
 -- What the search found is what the table has for the key.
 module _ {t : Task} {w : List ℕ} {i : ℕ} (f : Finding t w i) where
   -- What `insert` asks.
-  pub found-room : (b : ℕ) → b ≡ bucketIn t w i → (32768 ≤ length w) × (b < 4093) × (i < 4000) × (headOf w b ≤ 4000)
+  pub found-room : (b : ℕ) → b ≡ bucketIn t w i → Large w × (b < headCount) × (i < mostRecords) × (headOf w b ≤ mostRecords)
   found-room b eb = let low = bucket-low (t .few) (keyOf w i) in
-      let short : i < 4000 = omega (arith, f .place, f .listed .short) in
+      let short : i < mostRecords = omega (arith, f .place, f .listed .short) in
       rw eb (f .listed .loaded .long, omega (arith, low, width-most (t .few)), short, rw (head-is (t .few) w (bucketIn t w i) low) (omega (arith, f .heads (bucketIn t w i))))
 
   module _ (x : ℕ) {b from : ℕ} (eb : b ≡ x % width (t .few)) (ef : from ≡ headOf w b) where
@@ -164,7 +166,7 @@ module _ {t : Task} {w : List ℕ} {i : ℕ} (f : Finding t w i) where
     unfolding look
     found-link ex ep = ep ∙ seek-cut (t .few) w from room (f .falls) (hits (keyOf w) x) ∙ rw (from-is, ex)
 
-pub eqn-is : (w : List ℕ) (i k : ℕ) (b v : Bool) → k ≡ listOf w i → b ≡ eqb (resultOf w k) 65535 → b ≡ v → eqnOf w i ≡ v
+pub eqn-is : (w : List ℕ) (i k : ℕ) (b v : Bool) → k ≡ listOf w i → b ≡ eqb (resultOf w k) EQUATION → b ≡ v → eqnOf w i ≡ v
 eqn-is w i k b v ek eb ev = rw (← ek) (sym eb ∙ ev)
 
 -- A pass begins with no chains, and goes on by steps.

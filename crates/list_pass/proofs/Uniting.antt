@@ -13,21 +13,22 @@ use Rattle.meaning.proofs.Relabel.{into-hit, into-miss, relabel-labels, relabel
 use Rattle.table.specs.Map.{listOf, labelOf, recordsIn, listIn, Within}
 use Rattle.table.proofs.Frame.{seen-within, within-refl, within-wider}
 use Rattle.table.proofs.Kept.{lefts, rights, results, loaded-same}
+use Rattle.table.specs.Places.{HEADS, LIST, NEXT, PARENT, closurePart, fromTo, frontOf}
 use Rattle.table_labels.specs.Parts.{reach, width, Relabelled}
 use Rattle.list_pass.specs.Listed.{Listed}
 use Rattle.list_pass.specs.declared.Task.{Task}
 use Rattle.list_pass.specs.Uniting.{State, Joining, Joined, Meeting, Met}
 
 -- The list is kept where the columns are.
-pub listed-same : {end N len n : ℕ} {w w′ : List ℕ} → Within 12003 end w w′ → listOf w′ ≡ listOf w → Listed N len n w → Listed N len n w′
+pub listed-same : {end N len n : ℕ} {w w′ : List ℕ} → Within (fromTo (PARENT .at) end) w w′ → listOf w′ ≡ listOf w → Listed N len n w → Listed N len n w′
 listed-same f e h = record { loaded = loaded-same f (h .loaded); short = h .short; named = rw e (h .named) }
 
 module _ {t : Task} {w w′ : List ℕ} {lo hi : ℕ} (J : Joining t w lo hi) (less : lo < hi) (m : Relabelled w w′ lo hi) where
   list : listOf w′ ≡ listOf w
-  list = seen-within 17003 4000 (λ x. 0) (m .frame) (inl (omega arith))
+  list = seen-within LIST (m .frame) (inl (omega arith))
 
-  wide : Within 12003 22003 w w′
-  wide = within-wider 12003 22003 (omega arith) (omega arith) (m .frame)
+  wide : Within (fromTo (PARENT .at) (NEXT .at)) w w′
+  wide = within-wider (fromTo (PARENT .at) (NEXT .at)) (omega arith) (omega arith) (m .frame)
 
   sound : ((x : ℕ) → Follows (Only (recordsIn (t .len) w) (listIn (t .places) w)) x (labelOf w x)) → (x : ℕ) → Follows (Only (recordsIn (t .len) w) (listIn (t .places) w)) x (into lo hi (labelOf w x))
   sound s x = elim (ℕ-discrete (labelOf w x) hi) [
@@ -48,9 +49,9 @@ module _ {t : Task} {w w′ : List ℕ} {lo hi : ℕ} (J : Joining t w lo hi) (l
   pub united : Joined t w w′
   united = record {
     state = state;
-    kept = within-wider 21003 30096 (omega arith) (omega arith) (m .frame);
-    heads = seen-within 26003 (width (t .few)) (λ x. 0) (m .frame) (inr (omega arith));
-    nexts = seen-within 22003 (reach (t .few)) (λ x. 0) (m .frame) (inr (omega arith));
+    kept = within-wider closurePart (omega arith) (omega arith) (m .frame);
+    heads = seen-within (frontOf HEADS (width (t .few))) (m .frame) (inr (omega arith));
+    nexts = seen-within (frontOf NEXT (reach (t .few))) (m .frame) (inr (omega arith));
   }
 
 -- The two may change places.

@@ -9,21 +9,22 @@ use mathlib.Core.List.{List}
 use Rattle.table.specs.Map.{leftOf, rightOf, listOf, labelOf, Within}
 use Rattle.table.proofs.Frame.{seen-within, within-wider}
 use Rattle.table.proofs.Kept.{lefts, rights, results}
+use Rattle.table.specs.Places.{LABEL, LIST, beforeMarks, chainPart, closurePart}
 use Rattle.list_pass.specs.declared.Task.{Task}
 use Rattle.list_pass.specs.Uniting.{State}
 use Rattle.list_pass.proofs.Uniting.{listed-same}
 use Rattle.list_pass.specs.Passing.{eqnOf, keyOf, resOf}
 
 -- A change of the chains alone.
-module _ {w w′ : List ℕ} (f : Within 22003 30096 w w′) where
-  frame : Within 12003 30096 w w′
-  frame = within-wider 12003 30096 (omega arith) (omega arith) f
+module _ {w w′ : List ℕ} (f : Within chainPart w w′) where
+  frame : Within beforeMarks w w′
+  frame = within-wider beforeMarks (omega arith) (omega arith) f
 
   list : listOf w′ ≡ listOf w
-  list = seen-within 17003 4000 (λ x. 0) f (inl (omega arith))
+  list = seen-within LIST f (inl (omega arith))
 
   label : labelOf w′ ≡ labelOf w
-  label = seen-within 21003 1000 (λ x. x) f (inl (omega arith))
+  label = seen-within LABEL f (inl (omega arith))
 
   pub chains-state : {t : Task} {n : ℕ} → State t w n → State t w′ n
   chains-state s = record {
@@ -35,8 +36,8 @@ module _ {w w′ : List ℕ} (f : Within 22003 30096 w w′) where
     own = rw label (s .own);
   }
 
-  pub chains-kept : Within 21003 30096 w w′
-  chains-kept = within-wider 21003 30096 (omega arith) (omega arith) f
+  pub chains-kept : Within closurePart w w′
+  chains-kept = within-wider closurePart (omega arith) (omega arith) f
 
   -- What the chains are keyed by is kept.
   pub eqns-same : eqnOf w′ ≡ eqnOf w

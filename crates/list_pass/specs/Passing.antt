@@ -6,6 +6,7 @@ use mathlib.Core.Bool.{Bool, true, false}
 use mathlib.Core.List.{List}
 use lib.Dec.{eqb}
 use Rattle.table.specs.Map.{leftOf, rightOf, resultOf, listOf, labelOf, Within}
+use Rattle.table.specs.Places.{EQUATION, closurePart}
 use Rattle.table_labels.specs.Chain.{look, Chains, Filled}
 use Rattle.table_labels.specs.Parts.{keyIn, reach, width, nextTo, nextIn, headIn}
 use Rattle.list_pass.specs.Listed.{Listed}
@@ -14,7 +15,7 @@ use Rattle.list_pass.specs.declared.Task.{Task}
 
 -- By place of the list: whether the record is an equation, both argument labels as one number, the result's label.
 abbrev pub eqnOf : List ℕ → ℕ → Bool
-eqnOf w j = eqb (resultOf w (listOf w j)) 65535
+eqnOf w j = eqb (resultOf w (listOf w j)) EQUATION
 
 abbrev pub keyOf : List ℕ → ℕ → ℕ
 keyOf w j = keyIn w (listOf w j)
@@ -45,7 +46,7 @@ pub record Stepping (t : Task) (w : List ℕ) (i n : ℕ) : Type 0 where
 
 pub record Stepped (t : Task) (w : List ℕ) (i n : ℕ) (w′ : List ℕ) (n′ : ℕ) : Type 0 where
   pub state : State t w′ n′
-  pub kept : Within 21003 30096 w w′
+  pub kept : Within closurePart w w′
   pub chains : Chained (t .few) w′ (suc i)
   pub more : n ≤ n′
   pub valid : n′ ≡ n → Valid (t .few) w i → Valid (t .few) w′ (suc i)
@@ -53,14 +54,14 @@ pub record Stepped (t : Task) (w : List ℕ) (i n : ℕ) (w′ : List ℕ) (n′
 -- The first i places were met; and all of them, until no join came.
 pub record Passed (t : Task) (w : List ℕ) (n i : ℕ) (w′ : List ℕ) (n′ : ℕ) : Type 0 where
   pub state : State t w′ n′
-  pub kept : Within 21003 30096 w w′
+  pub kept : Within closurePart w w′
   pub chains : Chained (t .few) w′ i
   pub more : n ≤ n′
   pub valid : n′ ≡ n → Valid (t .few) w′ i
 
 pub record Rested (t : Task) (w : List ℕ) (n : ℕ) (w′ : List ℕ) (n′ : ℕ) : Type 0 where
   pub state : State t w′ n′
-  pub kept : Within 21003 30096 w w′
+  pub kept : Within closurePart w w′
   pub chains : Chained (t .few) w′ (t .places)
   pub more : n ≤ n′
   pub valid : Valid (t .few) w′ (t .places)

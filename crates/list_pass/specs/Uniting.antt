@@ -7,6 +7,7 @@ use mathlib.Core.List.{List}
 use Rattle.meaning.specs.Following.{Follows, Only}
 use Rattle.meaning.specs.Labels.{Labels, classes}
 use Rattle.table.specs.Map.{labelOf, recordsIn, listIn, Within}
+use Rattle.table.specs.Places.{closurePart}
 use Rattle.table_labels.specs.Parts.{Own, reach, nextIn, headIn}
 use Rattle.list_pass.specs.Listed.{Listed}
 use Rattle.list_pass.specs.declared.Task.{Task}
@@ -32,7 +33,7 @@ pub record Joining (t : Task) (w : List ℕ) (a b : ℕ) : Type 0 where
 -- One more join was made; the chains are as they were.
 pub record Joined (t : Task) (w w′ : List ℕ) : Type 0 where
   pub state : (n : ℕ) → State t w n → State t w′ (suc n)
-  pub kept : Within 21003 30096 w w′
+  pub kept : Within closurePart w w′
   pub heads : headIn (t .few) w′ ≡ headIn (t .few) w
   pub nexts : nextIn (t .few) w′ ≡ nextIn (t .few) w
 
@@ -44,7 +45,7 @@ pub record Meeting (t : Task) (w : List ℕ) (x y n : ℕ) : Type 0 where
 
 pub record Met (t : Task) (w : List ℕ) (x y n : ℕ) (w′ : List ℕ) (n′ : ℕ) : Type 0 where
   pub state : State t w′ n′
-  pub kept : Within 21003 30096 w w′
+  pub kept : Within closurePart w w′
   pub heads : headIn (t .few) w′ ≡ headIn (t .few) w
   pub nexts : nextIn (t .few) w′ ≡ nextIn (t .few) w
   pub more : n ≤ n′

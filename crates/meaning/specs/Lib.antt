@@ -1,3 +1,4 @@
+pub mod Limits
 pub mod Following
 pub mod Reasons
 pub mod Joins

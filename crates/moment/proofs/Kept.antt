@@ -10,33 +10,35 @@ use Rattle.meaning.specs.Following.{Rec}
 use Rattle.meaning.specs.Joins.{Join, Justified, count}
 use Rattle.meaning.specs.Forest.{root, Links, History}
 use Rattle.meaning.proofs.Exact.{Settled}
+use Rattle.meaning.specs.Limits.{mostTags}
 use Rattle.table.specs.Map.{leftOf, rightOf, resultOf, parentOf, ageOf, firstOf, secondOf, whenOf, recordsIn, joinAt, Loaded, Within}
 use Rattle.table.proofs.Frame.{seen-within, within-wider}
 use Rattle.table.proofs.Kept.{lefts, rights, results, loaded-same, records-same}
 use Rattle.table.specs.Past.{Past}
+use Rattle.table.specs.Places.{AGE, FIRST, LIST, MARKS, PARENT, SECOND, WHEN, fromTo, listPart}
 use Rattle.moment.specs.Meeting.{Forested}
 use Rattle.moment.specs.Holding.{Holds, marked}
 
 -- The past, said of functions.
 record Bare (N len n : ℕ) (rs : List Rec) (e : ℕ → Join) (p g h : ℕ → ℕ) : Type 0 where
-  history : History e n p g 1000
+  history : History e n p g mostTags
   justified : Justified rs e n
   made : (a : ℕ) → a < n → (1 ≤ h a) × (h a ≤ len)
   order : (a b : ℕ) → a ≤ b → b < n → h a ≤ h b
   moments : (k : ℕ) → k ≤ len → Settled rs (λ m. m ≤ k) e (count (λ a. leb (h a) k) n) (root p g (count (λ a. leb (h a) k) n))
 
-module _ {e : ℕ} {w w′ : List ℕ} (f : Within 17003 e w w′) where
+module _ {e : ℕ} {w w′ : List ℕ} (f : Within (fromTo (LIST .at) e) w w′) where
   pub kept-parents : parentOf w′ ≡ parentOf w
-  kept-parents = seen-within 12003 1000 (λ x. x) f (inl (omega arith))
+  kept-parents = seen-within PARENT f (inl (omega arith))
 
   pub kept-ages : ageOf w′ ≡ ageOf w
-  kept-ages = seen-within 13003 1000 (λ x. 1000) f (inl (omega arith))
+  kept-ages = seen-within AGE f (inl (omega arith))
 
   pub kept-whens : whenOf w′ ≡ whenOf w
-  kept-whens = seen-within 16003 1000 (λ x. 0) f (inl (omega arith))
+  kept-whens = seen-within WHEN f (inl (omega arith))
 
-  columns : Within 12003 e w w′
-  columns = within-wider 12003 e (omega arith) (omega arith) f
+  columns : Within (fromTo (PARENT .at) e) w w′
+  columns = within-wider (fromTo (PARENT .at) e) (omega arith) (omega arith) f
 
   pub kept-left : (k : ℕ) → leftOf w′ k ≡ leftOf w k
   kept-left k = ap (λ (h : ℕ → ℕ). h k) (lefts columns)
@@ -48,10 +50,10 @@ module _ {e : ℕ} {w w′ : List ℕ} (f : Within 17003 e w w′) where
   result-same k = ap (λ (h : ℕ → ℕ). h k) (results columns)
 
   pub kept-first : (k : ℕ) → firstOf w′ k ≡ firstOf w k
-  kept-first k = ap (λ (h : ℕ → ℕ). h k) (seen-within 14003 1000 (λ x. 0) f (inl (omega arith)))
+  kept-first k = ap (λ (h : ℕ → ℕ). h k) (seen-within FIRST f (inl (omega arith)))
 
   pub kept-second : (k : ℕ) → secondOf w′ k ≡ secondOf w k
-  kept-second k = ap (λ (h : ℕ → ℕ). h k) (seen-within 15003 1000 (λ x. 0) f (inl (omega arith)))
+  kept-second k = ap (λ (h : ℕ → ℕ). h k) (seen-within SECOND f (inl (omega arith)))
 
   pub kept-records : (len : ℕ) → recordsIn len w′ ≡ recordsIn len w
   kept-records = records-same columns
@@ -77,11 +79,11 @@ module _ {e : ℕ} {w w′ : List ℕ} (f : Within 17003 e w w′) where
   kept-holds h = record { tags = h .tags; len = h .len; joins = h .joins; past = kept-past (h .past); reach = h .reach }
 
 -- Writing in the list and in the notes leaves the marks.
-pub kept-marks : {w w′ : List ℕ} → Within 17003 30096 w w′ → marked w′ ≡ marked w
-kept-marks f = fun-ext (λ a. ap (λ (m : ℕ → ℕ). eqb (m a) 1) (seen-within 30096 1000 (λ x. 0) f (inr (omega arith))))
+pub kept-marks : {w w′ : List ℕ} → Within listPart w w′ → marked w′ ≡ marked w
+kept-marks f = fun-ext (λ a. ap (λ (m : ℕ → ℕ). eqb (m a) 1) (seen-within MARKS f (inr (omega arith))))
 
 -- The links do not ask how many joins there are.
-pub links-all : {p g : ℕ → ℕ} {n : ℕ} → Links p g 1000 n → n ≤ 1000 → Links p g 1000 1000
+pub links-all : {p g : ℕ → ℕ} {n : ℕ} → Links p g mostTags n → n ≤ mostTags → Links p g mostTags mostTags
 links-all {p} {g} {n} K l = record {
   down = λ x h. K .down x (young x h);
   rise = λ x h. K .rise x (young x h);
@@ -89,7 +91,7 @@ links-all {p} {g} {n} K l = record {
   age = λ x. elim (K .age x) [ inl h ↦ inl (omega arith) | inr h ↦ inr h ];
 }
   where
-    young : (x : ℕ) → g x < 1000 → g x < n
+    young : (x : ℕ) → g x < mostTags → g x < n
     young x h = elim (K .age x) [ inl k ↦ k | inr k ↦ absurd (omega arith) ]
 
 pub past-forest : {N len n : ℕ} {w : List ℕ} → Past N len w n → Forested w

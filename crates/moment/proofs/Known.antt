@@ -15,6 +15,7 @@ use Rattle.meaning.proofs.Reference.{Small}
 use Rattle.table.specs.Map.{leftOf, rightOf, resultOf, firstOf, secondOf, recAt, recordsIn, joinAt, Loaded}
 use Rattle.table.proofs.Frame.{length-gather, getD-gather}
 use Rattle.table.specs.Past.{Past}
+use Rattle.table.specs.Places.{EQUATION}
 
 -- What stands as record k of the table is what the columns say.
 pub record Stands (N len : ℕ) (w : List ℕ) (k : ℕ) (r : Rec) : Type 0 where
@@ -88,8 +89,8 @@ module _ {N len n : ℕ} {w : List ℕ} (P : Past N len w n) (b : ℕ) (l : b < 
       two k k′ e e′ x y x′ y′ i i′ j j′ =
           let s = at-stands (P .loaded) (at-moved e i) in
           let s′ = at-stands (P .loaded) (at-moved e′ i′) in
-          let c = app-columns w (firstOf w b) x y (joinAt w b .u) (eqb (resultOf w (firstOf w b)) 65535) (s .is) in
-          let c′ = app-columns w (secondOf w b) x′ y′ (joinAt w b .v) (eqb (resultOf w (secondOf w b)) 65535) (s′ .is) in
+          let c = app-columns w (firstOf w b) x y (joinAt w b .u) (eqb (resultOf w (firstOf w b)) EQUATION) (s .is) in
+          let c′ = app-columns w (secondOf w b) x′ y′ (joinAt w b .v) (eqb (resultOf w (secondOf w b)) EQUATION) (s′ .is) in
           let at = app-moved e (c .0) (c .1) i in
           let at′ = app-moved e′ (c′ .0) (c′ .1) i′ in
           record {
@@ -122,4 +123,4 @@ module _ {N len n : ℕ} {w : List ℕ} (P : Past N len w n) (b : ℕ) (l : b < 
           cc q
 
       columns : (leftOf w (firstOf w b) ≡ x) × (rightOf w (firstOf w b) ≡ y) × (resultOf w (firstOf w b) ≡ i .result)
-      columns = app-columns w (firstOf w b) x y (i .result) (eqb (resultOf w (firstOf w b)) 65535) (at-stands (P .loaded) (at-moved first (i .at)) .is)
+      columns = app-columns w (firstOf w b) x y (i .result) (eqb (resultOf w (firstOf w b)) EQUATION) (at-stands (P .loaded) (at-moved first (i .at)) .is)

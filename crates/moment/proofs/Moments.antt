@@ -17,6 +17,7 @@ use Rattle.meaning.proofs.Count.{count-low}
 use Rattle.meaning.proofs.Forest.{root-stop, root-up, root-ind}
 use Rattle.meaning.proofs.Log.{linked-up}
 use Rattle.meaning.proofs.Exact.{settled-same, settled-leader}
+use Rattle.meaning.specs.Limits.{mostTags}
 use Rattle.table.specs.Map.{parentOf, ageOf, whenOf, recordsIn}
 use Rattle.table.specs.Past.{Past, ageAfter, leaderAfter}
 use Rattle.moment.specs.Meeting.{leaderAt, Met}
@@ -60,12 +61,12 @@ module _ (h : ℕ → ℕ) (k : ℕ) where
       go f (no j) = omega (arith, count-low (λ i. leb (h i) k) n)
 
 -- No join has an age from n up to 1,000, so the leaders do not change there.
-root-beyond : (p g : ℕ → ℕ) (n a : ℕ) → Links p g 1000 n → n ≤ a → a ≤ 1000 → (x : ℕ) → root p g a x ≡ root p g n x
-root-beyond p g n a K l m = root-ind p g 1000 n K n (omega arith) (omega arith) (λ x. root p g a x ≡ root p g n x)
-    (λ x h. root-stop p g 1000 1000 (links-all K (omega arith)) a m (omega arith) x (top x h (K .age x)) ∙ sym (root-stop p g 1000 n K n (omega arith) (omega arith) x h))
-    (λ x h q. root-up p g 1000 1000 (links-all K (omega arith)) a m (omega arith) x (omega arith) ∙ q ∙ sym (root-up p g 1000 n K n (omega arith) (omega arith) x h))
+root-beyond : (p g : ℕ → ℕ) (n a : ℕ) → Links p g mostTags n → n ≤ a → a ≤ mostTags → (x : ℕ) → root p g a x ≡ root p g n x
+root-beyond p g n a K l m = root-ind p g mostTags n K n (omega arith) (omega arith) (λ x. root p g a x ≡ root p g n x)
+    (λ x h. root-stop p g mostTags mostTags (links-all K (omega arith)) a m (omega arith) x (top x h (K .age x)) ∙ sym (root-stop p g mostTags n K n (omega arith) (omega arith) x h))
+    (λ x h q. root-up p g mostTags mostTags (links-all K (omega arith)) a m (omega arith) x (omega arith) ∙ q ∙ sym (root-up p g mostTags n K n (omega arith) (omega arith) x h))
   where
-    top : (x : ℕ) → n ≤ g x → (g x < n) ⊎ (1000 ≤ g x) → a ≤ g x
+    top : (x : ℕ) → n ≤ g x → (g x < n) ⊎ (mostTags ≤ g x) → a ≤ g x
     top x h (inl i) = absurd (omega arith)
     top x h (inr i) = omega arith
 
@@ -78,7 +79,7 @@ module _ {N len n : ℕ} {w : List ℕ} (P : Past N len w n) where
   age-after-most k = count-low (λ a. leb (whenOf w a) k) n
 
   -- The age of a moment is that of a join, or one more.
-  pub age-low : (k a : ℕ) → a ≡ ageAfter w n k → a ≤ 1000
+  pub age-low : (k a : ℕ) → a ≡ ageAfter w n k → a ≤ mostTags
   age-low k a e = omega (arith, age-after-most k, P .history .room)
 
   -- A join has been made once its own record is in.
@@ -91,7 +92,7 @@ module _ {N len n : ℕ} {w : List ℕ} (P : Past N len w n) where
 
   module _ {s t b : ℕ} (M : Met w s t b) where
     -- The age is that of a join, or 1,000.
-    pub met-join : b < 1000 → b < n
+    pub met-join : b < mostTags → b < n
     met-join l = go (decLt b n)
       where
         go : Dec (b < n) → b < n
@@ -113,5 +114,5 @@ module _ {N len n : ℕ} {w : List ℕ} (P : Past N len w n) where
     pub met-later : (R : ℕ) → R ≤ len → b < n → R < whenOf w b → Follows (UpTo (recordsIn len w) R) s t → ⊥
     met-later R m l h f = M .apart (ageAfter w n R) (front-out (whenOf w) R n (P .order) b l h) (settled-same (P .moments R m) s t .0 f)
 
-    pub met-never : (R : ℕ) → R ≤ len → b ≡ 1000 → Follows (UpTo (recordsIn len w) R) s t → ⊥
+    pub met-never : (R : ℕ) → R ≤ len → b ≡ mostTags → Follows (UpTo (recordsIn len w) R) s t → ⊥
     met-never R m q f = M .apart (ageAfter w n R) (omega (arith, age-after-most R, P .history .room)) (settled-same (P .moments R m) s t .0 f)

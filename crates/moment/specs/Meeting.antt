@@ -6,7 +6,9 @@ use mathlib.Core.Logic.{_≢_}
 use mathlib.Core.List.{List}
 use lib.ListN.{length}
 use Rattle.meaning.specs.Forest.{root, Links}
+use Rattle.meaning.specs.Limits.{mostTags}
 use Rattle.table.specs.Map.{parentOf, ageOf}
+use Rattle.table.specs.Places.{Large}
 
 -- The leader of x by the links older than age a.
 abbrev pub leaderAt : List ℕ → ℕ → ℕ → ℕ
@@ -14,12 +16,12 @@ leaderAt w a x = root (parentOf w) (ageOf w) a x
 
 -- The links of the table lead down and grow younger.
 pub record Forested (w : List ℕ) : Type 0 where
-  pub long : 32768 ≤ length w
-  pub links : Links (parentOf w) (ageOf w) 1000 1000
+  pub long : Large w
+  pub links : Links (parentOf w) (ageOf w) mostTags mostTags
 
 -- b is the age of the newest join between s and t: with it they have one leader, and by older joins alone they have two. It is 1,000
 -- where no join of the table brought them together.
 pub record Met (w : List ℕ) (s t b : ℕ) : Type 0 where
-  pub most : b ≤ 1000
-  pub joined : b < 1000 → leaderAt w (suc b) s ≡ leaderAt w (suc b) t
+  pub most : b ≤ mostTags
+  pub joined : b < mostTags → leaderAt w (suc b) s ≡ leaderAt w (suc b) t
   pub apart : (a : ℕ) → a ≤ b → leaderAt w a s ≢ leaderAt w a t

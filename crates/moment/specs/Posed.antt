@@ -7,6 +7,7 @@ use mathlib.Core.Bool.{Bool, true}
 use mathlib.Core.List.{List}
 use Rattle.table.specs.Map.{Within}
 use Rattle.table.specs.Past.{Past}
+use Rattle.table.specs.Places.{scratch}
 use Rattle.moment.specs.declared.Question.{Question}
 
 -- The table holds what the question is about: N tags, all records with their joins, and the records before it among them.
@@ -18,5 +19,5 @@ pub record Posed (w : List ℕ) (q : Question) : Type 0 where
 
 -- A test that is exact for A and writes only where a reason is looked for.
 pub record Deciding (A : Type 0) (w w′ : List ℕ) (answer : Bool) : Type 0 where
-  pub kept : Within 17003 32096 w w′
+  pub kept : Within scratch w w′
   pub exact : (answer ≡ true) ↔ A

@@ -4,8 +4,10 @@ ghost use mathlib.Core.Path.{_≡_};
 ghost use mathlib.Core.Logic.{_≢_};
 ghost use Prim.Native.Nat.{ℕ, _≤_, _<_};
 ghost use lib.ListN.{length};
+ghost use Rattle.meaning.specs.Limits.{mostTags};
 ghost use Rattle.table.specs.Map.{whenOf};
 ghost use Rattle.table.specs.Past.{ageAfter};
+ghost use Rattle.table.specs.Places.{Large};
 ghost use Rattle.moment.specs.Meeting.{leaderAt, Forested, Met};
 use meaning::Tag;
 
@@ -20,7 +22,7 @@ pub fn wide(x: u16) -> usize
 
 // The number of the record at which a join was made.
 pub fn made(work: &[u16], a: usize) -> usize
-    requires { ⌜ (32768 ≤ length (now work)) × (a < 1000) ⌝ }
+    requires { ⌜ Large (now work) × (a < mostTags) ⌝ }
     ensures { λ k. ⌜ k ≡ whenOf (now (work .entry)) a ⌝ }
 {
     let k = table::when(work, a);
@@ -29,7 +31,7 @@ pub fn made(work: &[u16], a: usize) -> usize
 
 // How many of the joins had been made once record `before` was in.
 pub fn age_after(work: &[u16], joins: usize, before: usize) -> usize
-    requires { ⌜ (32768 ≤ length (now work)) × (joins ≤ 1000) ⌝ }
+    requires { ⌜ Large (now work) × (joins ≤ mostTags) ⌝ }
     ensures { λ n. ⌜ n ≡ ageAfter (now (work .entry)) joins before ⌝ }
 {
     let mut n: usize = 0;
@@ -46,7 +48,7 @@ pub fn age_after(work: &[u16], joins: usize, before: usize) -> usize
 // The leader of x by the links older than `age`.
 pub fn leader(work: &[u16], age: usize, x: Tag) -> Tag
     requires { ⌜ Forested (now work) ⌝ }
-    requires { ⌜ (age ≤ 1000) × (x .0 < 1000) ⌝ }
+    requires { ⌜ (age ≤ mostTags) × (x .0 < mostTags) ⌝ }
     ensures { λ l. ⌜ l .0 ≡ leaderAt (now (work .entry)) age (x .0) ⌝ }
 {
     let mut y = x;
@@ -59,7 +61,7 @@ pub fn leader(work: &[u16], age: usize, x: Tag) -> Tag
 // The age of the newest join between two tags, or 1,000 where no join brought them together.
 pub fn met(work: &[u16], s: Tag, t: Tag) -> usize
     requires { ⌜ Forested (now work) ⌝ }
-    requires { ⌜ (s .0 < 1000) × (t .0 < 1000) × (s .0 ≢ t .0) ⌝ }
+    requires { ⌜ (s .0 < mostTags) × (t .0 < mostTags) × (s .0 ≢ t .0) ⌝ }
     ensures { λ b. ⌜ Met (now (work .entry)) (s .0) (t .0) b ⌝ }
 {
     let mut x = s;
@@ -69,14 +71,14 @@ pub fn met(work: &[u16], s: Tag, t: Tag) -> usize
         let a = table::age(work, x);
         let b = table::age(work, y);
         if a <= b {
-            if a >= 1000 {
-                return 1000;
+            if a >= meaning::MOST_TAGS {
+                return meaning::MOST_TAGS;
             }
             newest = a;
             x = table::parent(work, x);
         } else {
-            if b >= 1000 {
-                return 1000;
+            if b >= meaning::MOST_TAGS {
+                return meaning::MOST_TAGS;
             }
             newest = b;
             y = table::parent(work, y);

@@ -21,9 +21,11 @@ use Rattle.meaning.proofs.Reference.{Small}
 use Rattle.meaning.proofs.Exact.{reason-of, reason-same}
 use Rattle.meaning.proofs.Decide.{countClasses}
 use Rattle.meaning.proofs.Leaders.{classes-more}
+use Rattle.meaning.specs.Limits.{mostTags}
 use Rattle.table.specs.Map.{whenOf, firstOf, secondOf, listOf, listIn, recAt, recordsIn, joinAt, Loaded, Within}
 use Rattle.table.proofs.Frame.{length-gather, getD-gather, gather-in, within-refl, within-trans, within-wider}
 use Rattle.table.specs.Past.{Past, ageAfter}
+use Rattle.table.specs.Places.{LIST, Part, scratch, spare}
 use Rattle.moment.specs.Meeting.{Met}
 use Rattle.moment.specs.Holding.{Holds, marked}
 use Rattle.reason_follow.specs.Tracing.{Together, Traced, Unmarked}
@@ -98,15 +100,15 @@ needed-at p q r h = rw (p, q, r) h
 used-at : {e e′ : ℕ → Join} {m m′ : ℕ → Bool} (n : ℕ) {k : ℕ} {L : List ℕ} → e ≡ e′ → m ≡ m′ → List·Memᴰ k (used e′ m′ n) ↔ List·Memᴰ k L → List·Memᴰ k (used e m n) ↔ List·Memᴰ k L
 used-at n p q h = rw (p, q) h
 
-wide : {a e : ℕ} {w w′ : List ℕ} → 17003 ≤ a → e ≤ 32096 → Within a e w w′ → Within 17003 32096 w w′
-wide l m f = within-wider 17003 32096 l m f
+wide : {p : Part} {w w′ : List ℕ} → LIST .at ≤ p .from → p .upto ≤ spare → Within p w w′ → Within scratch w w′
+wide l m f = within-wider scratch l m f
 
 module _ {N len n s t b : ℕ} {w : List ℕ} (J : Joining N len n s t b w) where
   few : n ≤ 999
   few = omega (arith, J .past .low, J .past .loaded .few)
 
   module _ {w₁ : List ℕ} (U : Unmarked w w₁ n) where
-    frame₁ : Within 17003 32096 w w₁
+    frame₁ : Within scratch w w₁
     frame₁ = wide (omega arith) (omega arith) (U .kept)
 
     pub asks-trace : Together w₁ s t (suc b)
@@ -118,7 +120,7 @@ module _ {N len n s t b : ℕ} {w : List ℕ} (J : Joining N len n s t b w) wher
     }
 
     module _ {w₂ : List ℕ} (X : Traced w₁ w₂ (suc b) s t (tags s t)) where
-      frame₂ : Within 17003 32096 w w₂
+      frame₂ : Within scratch w w₂
       frame₂ = within-trans frame₁ (wide (omega arith) (omega arith) (X .kept))
 
       pub asks-list : Holds w₂ (suc b)
@@ -134,7 +136,7 @@ module _ {N len n s t b : ℕ} {w : List ℕ} (J : Joining N len n s t b w) wher
       ]
 
       module _ {w₃ : List ℕ} {m : ℕ} (G : Gathered w₂ w₃ (suc b) m) where
-        frame₃ : Within 17003 32096 w w₃
+        frame₃ : Within scratch w w₃
         frame₃ = within-trans frame₂ (wide (omega arith) (omega arith) (G .kept))
 
         same : (k : ℕ) → List·Memᴰ k (used (joinAt w) (marked w₂) (suc b)) ↔ List·Memᴰ k (waitingIn m w₃)
@@ -169,7 +171,7 @@ module _ {N len n s t b : ℕ} {w : List ℕ} (J : Joining N len n s t b w) wher
         }
 
         module _ {w₄ : List ℕ} {kept : ℕ} (Q : Pruned N len s t w₃ w₄ m kept) where
-          frame₄ : Within 17003 32096 w w₄
+          frame₄ : Within scratch w w₄
           frame₄ = within-trans frame₃ (wide (omega arith) (omega arith) (Q .kept-in))
 
           pub asks-rising : Numbered w₄ len kept
@@ -211,9 +213,9 @@ module _ {N len n before s t : ℕ} {w : List ℕ} (Q : Question N len n before 
   answer-same q = record { kept = within-refl w; past = Q .past; says = rw q (reason-same N (recordsIn len w) before t) }
 
   pub answer-never : {b : ℕ} → Met w s t b → n ≤ b → Explained N len n before s t w w Apart
-  answer-never {b} M l = record { kept = within-refl w; past = Q .past; says = met-never (Q .past) M before (Q .stands) (top (decLt b 1000)) }
+  answer-never {b} M l = record { kept = within-refl w; past = Q .past; says = met-never (Q .past) M before (Q .stands) (top (decLt b mostTags)) }
     where
-      top : Dec (b < 1000) → b ≡ 1000
+      top : Dec (b < mostTags) → b ≡ mostTags
       top (yes h) = absurd (omega (arith, met-join (Q .past) M h))
       top (no h) = omega (arith, M .most)
 

@@ -8,6 +8,7 @@ use Rattle.meaning.specs.Following.{Rec, Follows, UpTo}
 use Rattle.meaning.specs.Reasons.{Reason}
 use Rattle.table.specs.Map.{whenOf, listIn, recordsIn, Within}
 use Rattle.table.specs.Past.{Past}
+use Rattle.table.specs.Places.{scratch}
 use Rattle.moment.specs.Meeting.{Met}
 use Rattle.reason.specs.declared.Answer.{Answer}
 use Rattle.reason.specs.declared.Answer.the-variants.{Because, Apart}
@@ -27,7 +28,7 @@ Says N rs before s t w Apart = Follows (UpTo rs before) s t → ⊥
 
 -- From w to w′ the question was answered: the past stays, so that the next may be asked.
 pub record Explained (N len joins before s t : ℕ) (w w′ : List ℕ) (answer : Answer) : Type 0 where
-  pub kept : Within 17003 32096 w w′
+  pub kept : Within scratch w w′
   pub past : Past N len w′ joins
   pub says : Says N (recordsIn len w) before s t w′ answer
 
@@ -42,5 +43,5 @@ pub record Joining (N len joins s t b : ℕ) (w : List ℕ) : Type 0 where
   pub met : Met w s t b
 
 pub record Reasoned (N len s t b : ℕ) (w w′ : List ℕ) (c : ℕ) : Type 0 where
-  pub kept : Within 17003 32096 w w′
+  pub kept : Within scratch w w′
   pub reason : Reason N (recordsIn len w) (whenOf w b) s t (listIn c w′)

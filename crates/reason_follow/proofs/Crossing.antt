@@ -17,9 +17,11 @@ use Rattle.meaning.specs.Needed.{Crosses, Aim, tags, join, Needed, near-side, f
 use Rattle.meaning.proofs.Forest.{newest}
 use Rattle.meaning.proofs.Log.{linked-refl, linked-sym, linked-trans, linked-more, linked-up, put-hit, put-miss}
 use Rattle.meaning.proofs.Walk.{walk-same, walk-by, walk-cong}
+use Rattle.meaning.specs.Limits.{mostRecords, mostTags}
 use Rattle.table.specs.Map.{leftOf, rightOf, parentOf, ageOf, firstOf, secondOf, markOf, joinAt, recordsIn, Within}
 use Rattle.table.proofs.Frame.{seen-in, within-refl, within-trans, within-wider, within-set}
 use Rattle.table.specs.Past.{Past}
+use Rattle.table.specs.Places.{LIST, Large, MARKS, SAVED, allOf, fromTo}
 use Rattle.moment.specs.Meeting.{leaderAt, Met}
 use Rattle.moment.specs.Holding.{Holds, marked}
 use Rattle.reason_follow.specs.Tracing.{Together, Crossed, Sided, Caused, Traced, Unmarked}
@@ -28,11 +30,11 @@ use Rattle.moment.proofs.Known.{join-one, join-two}
 
 -- The numbers of a join that is there are in their ranges.
 pub record Ranged (w : List ℕ) (b : ℕ) : Type 0 where
-  pub age : b < 1000
-  pub first : firstOf w b ≤ 4000
-  pub second : secondOf w b ≤ 4000
-  pub u-tag : joinAt w b .u < 1000
-  pub v-tag : joinAt w b .v < 1000
+  pub age : b < mostTags
+  pub first : firstOf w b ≤ mostRecords
+  pub second : secondOf w b ≤ mostRecords
+  pub u-tag : joinAt w b .u < mostTags
+  pub v-tag : joinAt w b .v < mostTags
 
 pub holds-ranged : {w : List ℕ} {b : ℕ} → Holds w (suc b) → Ranged w b
 holds-ranged {w} {b} h = go (ℕ-discrete (secondOf w b) 0)
@@ -64,7 +66,7 @@ holds-ranged {w} {b} h = go (ℕ-discrete (secondOf w b) 0)
 module _ {w : List ℕ} {s t b : ℕ} (X : Crossed w s t b) where
   crossing : ((leaderAt w b s ≡ leaderAt w b (joinAt w b .u)) × (leaderAt w b (joinAt w b .v) ≡ leaderAt w b t))
       ⊎ ((leaderAt w b s ≡ leaderAt w b (joinAt w b .v)) × (leaderAt w b (joinAt w b .u) ≡ leaderAt w b t))
-  crossing = newest (joinAt w) (X .holds .joins) (parentOf w) (ageOf w) 1000 (X .holds .past .history) b (omega (arith, X .holds .reach)) s t
+  crossing = newest (joinAt w) (X .holds .joins) (parentOf w) (ageOf w) mostTags (X .holds .past .history) b (omega (arith, X .holds .reach)) s t
       (X .met .joined (holds-ranged (X .holds) .age)) (X .met .apart b (omega arith))
 
   pub sided-over : leaderAt w b s ≡ leaderAt w b (joinAt w b .u) → Sided w s t b (joinAt w b .u) (joinAt w b .v)
@@ -95,19 +97,19 @@ holds-pairs {w} {b} h z =
     }
 
 -- Marks alone change nothing of the rest.
-wider : {w w′ : List ℕ} → Within 30096 31096 w w′ → Within 17003 31096 w w′
-wider f = within-wider 17003 31096 (omega arith) (omega arith) f
+wider : {w w′ : List ℕ} → Within (allOf MARKS) w w′ → Within (fromTo (LIST .at) (SAVED .at)) w w′
+wider f = within-wider (fromTo (LIST .at) (SAVED .at)) (omega arith) (omega arith) f
 
-pub kept-leader : {w w′ : List ℕ} → Within 30096 31096 w w′ → (a x : ℕ) → leaderAt w′ a x ≡ leaderAt w a x
+pub kept-leader : {w w′ : List ℕ} → Within (allOf MARKS) w w′ → (a x : ℕ) → leaderAt w′ a x ≡ leaderAt w a x
 kept-leader f a x = rw (kept-parents (wider f), kept-ages (wider f))
 
-pub kept-ends : {w w′ : List ℕ} → Within 30096 31096 w w′ → joinAt w′ ≡ joinAt w
+pub kept-ends : {w w′ : List ℕ} → Within (allOf MARKS) w w′ → joinAt w′ ≡ joinAt w
 kept-ends f = kept-joins (wider f)
 
-pub kept-still : {w w′ : List ℕ} {a : ℕ} → Within 30096 31096 w w′ → Holds w a → Holds w′ a
+pub kept-still : {w w′ : List ℕ} {a : ℕ} → Within (allOf MARKS) w w′ → Holds w a → Holds w′ a
 kept-still f = kept-holds (wider f)
 
-pub kept-together : {w w′ : List ℕ} {s t b : ℕ} → Within 30096 31096 w w′ → Together w s t b → Together w′ s t b
+pub kept-together : {w w′ : List ℕ} {s t b : ℕ} → Within (allOf MARKS) w w′ → Together w s t b → Together w′ s t b
 kept-together {s = s} {t = t} {b = b} f h = record { holds = kept-still f (h .holds); from = h .from; to = h .to; equal = rw (kept-leader f b s, kept-leader f b t) (h .equal) }
 
 supported-moved : {rs rs′ : List Rec} {e e′ : ℕ → Join} {m : ℕ → Bool} {n : ℕ} → rs ≡ rs′ → e ≡ e′ → Supported rs′ e′ m n → Supported rs e m n
@@ -117,12 +119,12 @@ linked-moved : {e : ℕ → Join} {m : ℕ → Bool} {n x y x′ y′ : ℕ} →
 linked-moved p q i = rw (← p, ← q) i
 
 -- What a later call did, said of the table at the start.
-walked-at : {w w₁ w₂ : List ℕ} {b s t : ℕ} {aim : Aim} → Within 30096 31096 w w₁ → Traced w₁ w₂ b s t aim → (N len n : ℕ) → Past N len w n → b ≤ n → Supported (recordsIn len w) (joinAt w) (marked w₁) n
+walked-at : {w w₁ w₂ : List ℕ} {b s t : ℕ} {aim : Aim} → Within (allOf MARKS) w w₁ → Traced w₁ w₂ b s t aim → (N len n : ℕ) → Past N len w n → b ≤ n → Supported (recordsIn len w) (joinAt w) (marked w₁) n
     → Walked (recordsIn len w) (joinAt w) n (marked w₁) (marked w₂) b s t
 walked-at {w} {w₁} f r N len n P l S =
     rw (kept-records (wider f) len, kept-joins (wider f)) at (r .walked N len n (kept-past (wider f) P) l (supported-moved (kept-records (wider f) len) (kept-joins (wider f)) S))
 
-needed-at : {w w₁ w₂ : List ℕ} {b s t : ℕ} {aim : Aim} → Within 30096 31096 w w₁ → Traced w₁ w₂ b s t aim → (N len n : ℕ) → Past N len w n → b ≤ n → (a : ℕ) → T (marked w₂ a)
+needed-at : {w w₁ w₂ : List ℕ} {b s t : ℕ} {aim : Aim} → Within (allOf MARKS) w w₁ → Traced w₁ w₂ b s t aim → (N len n : ℕ) → Past N len w n → b ≤ n → (a : ℕ) → T (marked w₂ a)
     → T (marked w₁ a) ⊎ Needed (recordsIn len w) (joinAt w) aim a
 needed-at {w} {w₁} f r N len n P l a h = rw (kept-records (wider f) len, kept-joins (wider f)) at (r .needed N len n (kept-past (wider f) P) l a h)
 
@@ -132,18 +134,18 @@ crosses-of {w} {s} {t} {b} {near} {far} M d N len n P l =
     let A = P .history .then b l in
     record { apart = λ j. M .apart b (omega arith) (A .labels s t j); from = A .joins s near (d .from); onto = A .joins far t (d .onto); either = d .either }
 
-pub marked-set : (w : List ℕ) (b : ℕ) → b < 1000 → 32768 ≤ length w → marked (set w (30096 + b) 1) ≡ put b true (marked w)
+pub marked-set : (w : List ℕ) (b : ℕ) → b < mostTags → Large w → marked (set w (MARKS .at + b) 1) ≡ put b true (marked w)
 marked-set w b l h = fun-ext (λ a. go a (ℕ-discrete a b))
   where
-    mark : markOf (set w (30096 + b) 1) ≡ put b 1 (markOf w)
-    mark = seen-in 30096 1000 (λ x. 0) w b 1 l (omega arith)
+    mark : markOf (set w (MARKS .at + b) 1) ≡ put b 1 (markOf w)
+    mark = seen-in MARKS w b 1 l (omega arith)
 
-    go : (a : ℕ) → Dec (a ≡ b) → marked (set w (30096 + b) 1) a ≡ put b true (marked w) a
+    go : (a : ℕ) → Dec (a ≡ b) → marked (set w (MARKS .at + b) 1) a ≡ put b true (marked w) a
     go a (yes q) = ap (λ (f : ℕ → ℕ). eqb (f a) 1) mark ∙ rw (q, put-hit b 1 (markOf w), put-hit b true (marked w)) refl
     go a (no q) = ap (λ (f : ℕ → ℕ). eqb (f a) 1) mark ∙ rw (put-miss b 1 (markOf w) a q, put-miss b true (marked w) a q) refl
 
 -- One mark more is of the join itself.
-marked-more : (w : List ℕ) (b : ℕ) → b < 1000 → 32768 ≤ length w → (rs : List Rec) (e : ℕ → Join) (a : ℕ) → T (marked (set w (30096 + b) 1) a) → T (marked w a) ⊎ Needed rs e (join b) a
+marked-more : (w : List ℕ) (b : ℕ) → b < mostTags → Large w → (rs : List Rec) (e : ℕ → Join) (a : ℕ) → T (marked (set w (MARKS .at + b) 1) a) → T (marked w a) ⊎ Needed rs e (join b) a
 marked-more w b l g rs e a h = go (subst (λ (x : Bool). T x) (ap (λ (f : ℕ → Bool). f a) (marked-set w b l g)) h) (ℕ-discrete a b)
   where
     go : T (put b true (marked w) a) → Dec (a ≡ b) → T (marked w a) ⊎ Needed rs e (join b) a
@@ -170,7 +172,7 @@ traced-cross {w} {w₁} {w₂} {w₃} {s} {t} {b} {near} {far} {limit} l M d x y
       ];
 }
   where
-    two : Within 30096 31096 w w₂
+    two : Within (allOf MARKS) w w₂
     two = within-trans (x .kept) (y .kept)
 
     all : (N len n : ℕ) → Past N len w n → limit ≤ n → Supported (recordsIn len w) (joinAt w) (marked w) n → Walked (recordsIn len w) (joinAt w) n (marked w) (marked w₃) limit s t
@@ -199,18 +201,18 @@ taken-known w b q = record {
   walked = λ N len n P l S. record { more = λ a h. h; supported = S; linked = over {n = b} (rw (eq-eqb (markOf w b) 1 q) tt) (linked-refl b (joinAt w b .u)) (linked-refl b (joinAt w b .v)) };
 }
 
-pub taken-one : (w : List ℕ) (b : ℕ) → b < 1000 → 32768 ≤ length w → secondOf w b ≡ 0 → Traced w (set w (30096 + b) 1) (suc b) (joinAt w b .u) (joinAt w b .v) (join b)
+pub taken-one : (w : List ℕ) (b : ℕ) → b < mostTags → Large w → secondOf w b ≡ 0 → Traced w (set w (MARKS .at + b) 1) (suc b) (joinAt w b .u) (joinAt w b .v) (join b)
 taken-one w b k g z = record {
   needed = λ N len n P l. marked-more w b k g (recordsIn len w) (joinAt w);
-  kept = within-set 30096 31096 w (30096 + b) 1 (omega arith) (omega arith);
+  kept = within-set (allOf MARKS) w (MARKS .at + b) 1 (omega arith) (omega arith);
   walked = λ N len n P l S. let o = join-one P b l z in
       rw (marked-set w b k g) (walk-by b (suc b) (omega arith) (o .why) (o .at) (walk-same b (joinAt w b .u) S) (walk-same b (joinAt w b .v) S));
 }
 
-pub taken-two : {w w₁ w₂ : List ℕ} {b : ℕ} → b < 1000 → 32768 ≤ length w → secondOf w b ≢ 0
+pub taken-two : {w w₁ w₂ : List ℕ} {b : ℕ} → b < mostTags → Large w → secondOf w b ≢ 0
     → Traced w w₁ b (leftOf w (firstOf w b)) (leftOf w (secondOf w b)) (tags (leftOf w (firstOf w b)) (leftOf w (secondOf w b)))
     → Traced w₁ w₂ b (rightOf w (firstOf w b)) (rightOf w (secondOf w b)) (tags (rightOf w (firstOf w b)) (rightOf w (secondOf w b)))
-    → Traced w (set w₂ (30096 + b) 1) (suc b) (joinAt w b .u) (joinAt w b .v) (join b)
+    → Traced w (set w₂ (MARKS .at + b) 1) (suc b) (joinAt w b .u) (joinAt w b .v) (join b)
 taken-two {w} {w₁} {w₂} {b} k g z x y = record {
   needed = λ N len n P l a h.
       let o = join-two P b l z in
@@ -221,7 +223,7 @@ taken-two {w} {w₁} {w₂} {b} k g z x y = record {
         ]
         | inr i ↦ inr i
       ];
-  kept = within-trans two (within-set 30096 31096 w₂ (30096 + b) 1 (omega arith) (omega arith));
+  kept = within-trans two (within-set (allOf MARKS) w₂ (MARKS .at + b) 1 (omega arith) (omega arith));
   walked = λ N len n P l S.
       let o = join-two P b l z in
       let p = x .walked N len n P (omega arith) S in
@@ -229,7 +231,7 @@ taken-two {w} {w₁} {w₂} {b} k g z x y = record {
       rw (marked-set w₂ b k (omega (arith, two .size))) (walk-cong b (suc b) (omega arith) (o .why) (o .at) (o .at′) (walk-same b (joinAt w b .u) S) (walk-same b (joinAt w b .v) S) p q);
 }
   where
-    two : Within 30096 31096 w w₂
+    two : Within (allOf MARKS) w w₂
     two = within-trans (x .kept) (y .kept)
 
 -- What a call needs of its own callees.
@@ -252,11 +254,11 @@ caused-lefts h k z = rw (k .a-is, k .a′-is) (holds-pairs h (λ e. z (k .second
 pub caused-rights : {w : List ℕ} {b q a a′ c c′ : ℕ} → Holds w (suc b) → Caused w b q a a′ c c′ → q ≢ 0 → Together w c c′ b
 caused-rights h k z = rw (k .c-is, k .c′-is) (holds-pairs h (λ e. z (k .second-is ∙ e)) .rights)
 
-pub caused-one : {w w′ : List ℕ} {b q a a′ c c′ : ℕ} → Holds w (suc b) → Caused w b q a a′ c c′ → q ≡ 0 → w′ ≡ set w (30096 + b) 1 → Traced w w′ (suc b) (joinAt w b .u) (joinAt w b .v) (join b)
+pub caused-one : {w w′ : List ℕ} {b q a a′ c c′ : ℕ} → Holds w (suc b) → Caused w b q a a′ c c′ → q ≡ 0 → w′ ≡ set w (MARKS .at + b) 1 → Traced w w′ (suc b) (joinAt w b .u) (joinAt w b .v) (join b)
 caused-one {w} {w′} {b} h k z e = rw e (taken-one w b (holds-ranged h .age) (h .past .loaded .long) (sym (k .second-is) ∙ z))
 
 pub caused-two : {w w₁ w₂ w′ : List ℕ} {b q a a′ c c′ : ℕ} → Holds w (suc b) → Caused w b q a a′ c c′ → q ≢ 0 → Traced w w₁ b a a′ (tags a a′) → Traced w₁ w₂ b c c′ (tags c c′)
-    → w′ ≡ set w₂ (30096 + b) 1 → Traced w w′ (suc b) (joinAt w b .u) (joinAt w b .v) (join b)
+    → w′ ≡ set w₂ (MARKS .at + b) 1 → Traced w w′ (suc b) (joinAt w b .u) (joinAt w b .v) (join b)
 caused-two {w} {w₁} {w₂} {w′} {b} h k z x y e =
     rw e (taken-two (holds-ranged h .age) (h .past .loaded .long) (λ i. z (k .second-is ∙ i)) (rw (k .a-is, k .a′-is) at x) (rw (k .c-is, k .c′-is) at y))
 
@@ -264,14 +266,14 @@ caused-two {w} {w₁} {w₂} {w′} {b} h k z x y e =
 pub unmarked-start : (w : List ℕ) → Unmarked w w 0
 unmarked-start w = record { kept = within-refl w; none = λ a l. absurd (omega arith) }
 
-pub unmarked-more : {w w₁ w₂ : List ℕ} {b : ℕ} → b < 1000 → 32768 ≤ length w → w₂ ≡ set w₁ (30096 + b) 0 → Unmarked w w₁ b → Unmarked w w₂ (suc b)
+pub unmarked-more : {w w₁ w₂ : List ℕ} {b : ℕ} → b < mostTags → Large w → w₂ ≡ set w₁ (MARKS .at + b) 0 → Unmarked w w₁ b → Unmarked w w₂ (suc b)
 unmarked-more {w} {w₁} {w₂} {b} l h e u = record {
-  kept = within-trans (u .kept) (rw e (within-set 30096 31096 w₁ (30096 + b) 0 (omega arith) (omega arith)));
+  kept = within-trans (u .kept) (rw e (within-set (allOf MARKS) w₁ (MARKS .at + b) 0 (omega arith) (omega arith)));
   none = λ a k. ap (λ (f : ℕ → ℕ). f a) mark ∙ go a k (ℕ-discrete a b);
 }
   where
     mark : markOf w₂ ≡ put b 0 (markOf w₁)
-    mark = ap markOf e ∙ seen-in 30096 1000 (λ x. 0) w₁ b 0 l (omega (arith, u .kept .size))
+    mark = ap markOf e ∙ seen-in MARKS w₁ b 0 l (omega (arith, u .kept .size))
 
     go : (a : ℕ) → a < suc b → Dec (a ≡ b) → put b 0 (markOf w₁) a ≡ 0
     go a k (yes q) = rw q (put-hit b 0 (markOf w₁))

@@ -4,7 +4,9 @@ ghost use mathlib.Core.Path.{_≡_};
 ghost use Prim.Native.Nat.{ℕ, suc, _+_, _≤_, _<_};
 ghost use lib.ListN.{length, set};
 ghost use Rattle.meaning.specs.Needed.{tags, join};
+ghost use Rattle.meaning.specs.Limits.{mostTags};
 ghost use Rattle.table.specs.Map.{joinAt};
+ghost use Rattle.table.specs.Places.{Large, MARKS};
 ghost use Rattle.moment.specs.Holding.{Holds};
 ghost use Rattle.reason_follow.specs.Tracing.{Together, Crossed, Ended, Sided, Caused, Traced, Unmarked};
 use meaning::RecordNo;
@@ -124,15 +126,15 @@ fn take(work: &mut [u16], b: usize)
 
 // A join is not taken into a reason.
 fn unmark(work: &mut [u16], a: usize)
-    requires { ⌜ (32768 ≤ length (now work)) × (a < 1000) ⌝ }
-    ensures { λ _. ⌜ now (work .exit) ≡ set (now (work .entry)) (30096 + a) 0 ⌝ }
+    requires { ⌜ Large (now work) × (a < mostTags) ⌝ }
+    ensures { λ _. ⌜ now (work .exit) ≡ set (now (work .entry)) (MARKS .at + a) 0 ⌝ }
 {
     work[table::MARKS + a] = 0;
 }
 
 // None of the first n joins is.
 pub fn unmark_all(work: &mut [u16], n: usize)
-    requires { ⌜ (32768 ≤ length (now work)) × (n ≤ 1000) ⌝ }
+    requires { ⌜ Large (now work) × (n ≤ mostTags) ⌝ }
     ensures { λ _. ⌜ Unmarked (now (work .entry)) (now (work .exit)) n ⌝ }
 {
     let mut a: usize = 0;

@@ -15,8 +15,10 @@ use Rattle.meaning.specs.Joins.{tick, count}
 use Rattle.meaning.specs.Needed.{Arguments, Unlike}
 use Rattle.meaning.proofs.Count.{count-low, count-less, count-there}
 use Rattle.meaning.proofs.Needed.{unlike-unspared}
+use Rattle.meaning.specs.Limits.{mostRecords, mostTags}
 use Rattle.table.specs.Map.{leftOf, rightOf, firstOf, secondOf, markOf, savedOf, listOf, listIn, joinAt, recordsIn, Within}
 use Rattle.table.proofs.Frame.{seen-at, seen-past, seen-within, gather-same, gather-in, within-refl, within-trans, within-wider, within-set}
+use Rattle.table.specs.Places.{LABEL, LIST, Large, MARKS, Part, SAVED, fromTo, frontPart, mostWaiting, scratch, spare, waitingAt}
 use Rattle.list_close.specs.Closing.{Listed, Holding, Telling}
 use Rattle.moment.specs.Holding.{marked}
 use Rattle.moment.proofs.Kept.{kept-left, kept-right, kept-first, kept-second, kept-records, kept-loaded}
@@ -33,7 +35,7 @@ chosen-unmarked w a c d = record { is = rw (ne-eqb (markOf w a) 1 d) refl; many 
 pub chosen-equation : (w : List ℕ) (a c : ℕ) → markOf w a ≡ 1 → secondOf w a ≡ 0 → Chosen w w a c c
 chosen-equation w a c m z = record { is = rw (eq-eqb (markOf w a) 1 m, eq-eqb (secondOf w a) 0 z) refl; many = rw (eq-eqb (markOf w a) 1 m, eq-eqb (secondOf w a) 0 z) refl }
 
-pub chosen-first : {w w′ : List ℕ} {a c p : ℕ} → markOf w a ≡ 1 → secondOf w a ≢ 0 → p ≡ firstOf w a → w′ ≡ set w (17003 + c) p → Chosen w w′ a c (suc c)
+pub chosen-first : {w w′ : List ℕ} {a c p : ℕ} → markOf w a ≡ 1 → secondOf w a ≢ 0 → p ≡ firstOf w a → w′ ≡ set w (LIST .at + c) p → Chosen w w′ a c (suc c)
 chosen-first {w} {w′} {a} {c} m z q e = record { is = rw (eq-eqb (markOf w a) 1 m, ne-eqb (secondOf w a) 0 z, ← q) e; many = rw (eq-eqb (markOf w a) 1 m, ne-eqb (secondOf w a) 0 z) refl }
 
 -- The loop: one join more.
@@ -43,37 +45,37 @@ firsts-start w = record { kept = within-refl w; many = refl; at = λ a l. absurd
 pub firsts-low : {w w′ : List ℕ} {a c : ℕ} → Firsts w w′ a c → c ≤ a
 firsts-low {w} {w′} {a} f = omega (arith, f .many, count-low (applied w) a)
 
-applied-same : {w w′ : List ℕ} {e : ℕ} → Within 17003 e w w′ → markOf w′ ≡ markOf w → applied w′ ≡ applied w
+applied-same : {w w′ : List ℕ} {e : ℕ} → Within (fromTo (LIST .at) e) w w′ → markOf w′ ≡ markOf w → applied w′ ≡ applied w
 applied-same {w} {w′} f m = fun-ext (λ a. rw (m, kept-second f a) refl)
 
-pub firsts-more : {w w₁ w₂ : List ℕ} {a c r : ℕ} → a < 1000 → 32768 ≤ length w → Firsts w w₁ a c → Chosen w₁ w₂ a c r → Firsts w w₂ (suc a) r
+pub firsts-more : {w w₁ w₂ : List ℕ} {a c r : ℕ} → a < mostTags → Large w → Firsts w w₁ a c → Chosen w₁ w₂ a c r → Firsts w w₂ (suc a) r
 firsts-more {w} {w₁} {w₂} {a} {c} {r} l g f h = go (applied w a) refl
   where
     now : applied w₁ ≡ applied w
-    now = applied-same (f .kept) (seen-within 30096 1000 (λ x. 0) (f .kept) (inr (omega arith)))
+    now = applied-same (f .kept) (seen-within MARKS (f .kept) (inr (omega arith)))
 
     place : c ≤ a
     place = firsts-low f
 
-    long : 32768 ≤ length w₁
+    long : Large w₁
     long = omega (arith, f .kept .size)
 
-    is : w₂ ≡ cond (applied w a) (set w₁ (17003 + c) (firstOf w₁ a)) w₁
-    is = h .is ∙ ap (λ (p : ℕ → Bool). cond (p a) (set w₁ (17003 + c) (firstOf w₁ a)) w₁) now
+    is : w₂ ≡ cond (applied w a) (set w₁ (LIST .at + c) (firstOf w₁ a)) w₁
+    is = h .is ∙ ap (λ (p : ℕ → Bool). cond (p a) (set w₁ (LIST .at + c) (firstOf w₁ a)) w₁) now
 
     many : r ≡ tick (applied w a) c
     many = h .many ∙ ap (λ (p : ℕ → Bool). tick (p a) c) now
 
     go : (b : Bool) → applied w a ≡ b → Firsts w w₂ (suc a) r
     go true q =
-        let e : w₂ ≡ set w₁ (17003 + c) (firstOf w₁ a) = rw q at is in
+        let e : w₂ ≡ set w₁ (LIST .at + c) (firstOf w₁ a) = rw q at is in
         record {
-          kept = within-trans (f .kept) (rw e (within-set 17003 19003 w₁ (17003 + c) (firstOf w₁ a) (omega arith) (omega (arith, place))));
+          kept = within-trans (f .kept) (rw e (within-set frontPart w₁ (LIST .at + c) (firstOf w₁ a) (omega arith) (omega (arith, place))));
           many = many ∙ ap (tick (applied w a)) (f .many);
           at = λ i k t. ap (λ (v : List ℕ). listOf v (count (applied w) i)) e ∙ at i k t (ℕ-discrete i a);
         }
       where
-        at : (i : ℕ) → i < suc a → T (applied w i) → Dec (i ≡ a) → listOf (set w₁ (17003 + c) (firstOf w₁ a)) (count (applied w) i) ≡ firstOf w i
+        at : (i : ℕ) → i < suc a → T (applied w i) → Dec (i ≡ a) → listOf (set w₁ (LIST .at + c) (firstOf w₁ a)) (count (applied w) i) ≡ firstOf w i
         at i k t (yes o) = rw (o, ← f .many) (list-hit w₁ c (firstOf w₁ a) (omega (arith, place)) long ∙ kept-first (f .kept) a)
         at i k t (no o) =
             let less : count (applied w) i < count (applied w) a = count-less (applied w) i a (omega arith) t in
@@ -91,24 +93,24 @@ firsts-more {w} {w₁} {w₂} {a} {c} {r} l g f h = go (applied w a) refl
         old i k t (no o) = omega arith
 
 -- The list's front as a copy of what waits, which is left by what is written before it.
-copied-list : {w w′ : List ℕ} {n : ℕ} → Copied w w′ 2000 0 n → listIn n w′ ≡ waitingIn n w
-copied-list {w} {w′} {n} c = gather-same (listOf w′) (λ j. listOf w (2000 + j)) n (λ i l. let q : i ≡ 0 + i = omega arith in ap (listOf w′) q ∙ c .copy i l)
+copied-list : {w w′ : List ℕ} {n : ℕ} → Copied w w′ waitingAt 0 n → listIn n w′ ≡ waitingIn n w
+copied-list {w} {w′} {n} c = gather-same (listOf w′) (λ j. listOf w (waitingAt + j)) n (λ i l. let q : i ≡ 0 + i = omega arith in ap (listOf w′) q ∙ c .copy i l)
 
-waits-on : (w w′ : List ℕ) (n : ℕ) → ((x : ℕ) → 2000 ≤ x → listOf w′ x ≡ listOf w x) → waitingIn n w′ ≡ waitingIn n w
-waits-on w w′ n h = gather-same (λ j. listOf w′ (2000 + j)) (λ j. listOf w (2000 + j)) n (λ i l. h (2000 + i) (omega arith))
+waits-on : (w w′ : List ℕ) (n : ℕ) → ((x : ℕ) → waitingAt ≤ x → listOf w′ x ≡ listOf w x) → waitingIn n w′ ≡ waitingIn n w
+waits-on w w′ n h = gather-same (λ j. listOf w′ (waitingAt + j)) (λ j. listOf w (waitingAt + j)) n (λ i l. h (waitingAt + i) (omega arith))
 
-list-behind : {w w′ : List ℕ} → Within 17003 19003 w w′ → (x : ℕ) → 2000 ≤ x → listOf w′ x ≡ listOf w x
-list-behind {w} {w′} f x l = go (decLt x 4000)
+list-behind : {w w′ : List ℕ} → Within frontPart w w′ → (x : ℕ) → waitingAt ≤ x → listOf w′ x ≡ listOf w x
+list-behind {w} {w′} f x l = go (decLt x mostRecords)
   where
-    go : Dec (x < 4000) → listOf w′ x ≡ listOf w x
-    go (yes h) = seen-at 17003 4000 (λ y. 0) w′ x h ∙ f .same (17003 + x) (inr (omega arith)) ∙ sym (seen-at 17003 4000 (λ y. 0) w x h)
-    go (no h) = seen-past 17003 4000 (λ y. 0) w′ x (omega arith) ∙ sym (seen-past 17003 4000 (λ y. 0) w x (omega arith))
+    go : Dec (x < mostRecords) → listOf w′ x ≡ listOf w x
+    go (yes h) = seen-at LIST w′ x h ∙ f .same (LIST .at + x) (inr (omega arith)) ∙ sym (seen-at LIST w x h)
+    go (no h) = seen-past LIST w′ x (omega arith) ∙ sym (seen-past LIST w x (omega arith))
 
-list-same : {e : ℕ} {w w′ : List ℕ} → Within 21003 e w w′ → (x : ℕ) → listOf w′ x ≡ listOf w x
-list-same f x = ap (λ (g : ℕ → ℕ). g x) (seen-within 17003 4000 (λ y. 0) f (inl (omega arith)))
+list-same : {e : ℕ} {w w′ : List ℕ} → Within (fromTo (LABEL .at) e) w w′ → (x : ℕ) → listOf w′ x ≡ listOf w x
+list-same f x = ap (λ (g : ℕ → ℕ). g x) (seen-within LIST f (inl (omega arith)))
 
-wide : {a e : ℕ} {w w′ : List ℕ} → 17003 ≤ a → e ≤ 32096 → Within a e w w′ → Within 17003 32096 w w′
-wide l m f = within-wider 17003 32096 l m f
+wide : {p : Part} {w w′ : List ℕ} → LIST .at ≤ p .from → p .upto ≤ spare → Within p w w′ → Within scratch w w′
+wide l m f = within-wider scratch l m f
 
 applied-two : (m : Bool) (z : ℕ) → T (m && not (eqb z 0)) → z ≢ 0
 applied-two true z h q = rw (eq-eqb z 0 q) at h
@@ -123,8 +125,8 @@ module _ {N len limit n s t : ℕ} {w : List ℕ} (C : Comparing N len limit n s
   few : limit ≤ 999
   few = omega (arith, C .reach, C .past .low, C .past .loaded .few)
 
-  module _ {w₁ : List ℕ} (K : Copied w w₁ 2000 0 n) where
-    frame₁ : Within 17003 32096 w w₁
+  module _ {w₁ : List ℕ} (K : Copied w w₁ waitingAt 0 n) where
+    frame₁ : Within scratch w w₁
     frame₁ = wide (omega arith) (omega arith) (K .kept)
 
     pub asks-hold : Listed N len n w₁
@@ -135,17 +137,17 @@ module _ {N len limit n s t : ℕ} {w : List ℕ} (C : Comparing N len limit n s
     }
 
     module _ {w₂ : List ℕ} {j : ℕ} {b : Bool} (H : Holding N len n s t w₁ w₂ j b) where
-      frame₂ : Within 17003 32096 w w₂
+      frame₂ : Within scratch w w₂
       frame₂ = within-trans frame₁ (wide (omega arith) (omega arith) (H .kept))
 
-      pub asks-firsts : (32768 ≤ length w₂) × (limit ≤ 1000)
+      pub asks-firsts : Large w₂ × (limit ≤ mostTags)
       asks-firsts = (omega (arith, C .past .loaded .long, frame₂ .size), omega (arith, few))
 
       marks : markOf w₂ ≡ markOf w
-      marks = H .marks ∙ seen-within 30096 1000 (λ x. 0) (K .kept) (inr (omega arith))
+      marks = H .marks ∙ seen-within MARKS (K .kept) (inr (omega arith))
 
       module _ {w₃ : List ℕ} {c : ℕ} (F : Firsts w₂ w₃ limit c) where
-        frame₃ : Within 17003 32096 w w₃
+        frame₃ : Within scratch w w₃
         frame₃ = within-trans frame₂ (wide (omega arith) (omega arith) (F .kept))
 
         picked : applied w₂ ≡ applied w
@@ -178,7 +180,7 @@ module _ {N len limit n s t : ℕ} {w : List ℕ} (C : Comparing N len limit n s
           saved-equal {x} {y} f = rw kept (H .settled x y .1 (rw (kept-records frame₁ len, copied-list K) f))
             where
               kept : savedOf w₃ ≡ savedOf w₂
-              kept = seen-within 31096 1000 (λ x. x) (F .kept) (inr (omega arith))
+              kept = seen-within SAVED (F .kept) (inr (omega arith))
 
           less : answer ≡ true → (a b x y x′ y′ : ℕ) → a < b → b < limit → T (marked w a) → T (marked w b) → Arguments (recordsIn len w) (joinAt w) a x y → Arguments (recordsIn len w) (joinAt w) b x′ y′
               → Follows (Only (recordsIn len w) (waitingIn n w)) x x′ → Follows (Only (recordsIn len w) (waitingIn n w)) y y′ → ⊥
@@ -218,10 +220,10 @@ module _ {N len limit n s t : ℕ} {w : List ℕ} (C : Comparing N len limit n s
 
 -- `prune`: either all stay, ..
 module _ {N len limit n s t : ℕ} {w w₁ : List ℕ} {answer : Bool} (C : Comparing N len limit n s t w) (E : Compared len n s t w w₁ answer) where
-  pub asks-copy : (32768 ≤ length w₁) × (n ≤ 1998)
+  pub asks-copy : Large w₁ × (n ≤ mostWaiting)
   asks-copy = (omega (arith, C .past .loaded .long, E .kept .size), C .followed .short)
 
-  pub pruned-none : {w₂ : List ℕ} → answer ≡ true → Copied w₁ w₂ 2000 0 n → Pruned N len s t w w₂ n n
+  pub pruned-none : {w₂ : List ℕ} → answer ≡ true → Copied w₁ w₂ waitingAt 0 n → Pruned N len s t w w₂ n n
   pruned-none {w₂} q K = record {
     kept-in = frame;
     few = omega arith;
@@ -230,7 +232,7 @@ module _ {N len limit n s t : ℕ} {w w₁ : List ℕ} {answer : Bool} (C : Comp
     unspared = λ m i f. E .unspared q m (rw list at i) (rw (kept-records frame len, list) at f);
   }
     where
-      frame : Within 17003 32096 w w₂
+      frame : Within scratch w w₂
       frame = within-trans (E .kept) (wide (omega arith) (omega arith) (K .kept))
 
       list : listIn n w₂ ≡ waitingIn n w

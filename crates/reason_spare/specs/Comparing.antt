@@ -13,6 +13,7 @@ use Rattle.meaning.specs.Joins.{Supported, used, tick, count}
 use Rattle.meaning.specs.Needed.{tags, Needed}
 use Rattle.table.specs.Map.{listOf, firstOf, secondOf, joinAt, recordsIn, Within}
 use Rattle.table.specs.Past.{Past}
+use Rattle.table.specs.Places.{LIST, frontPart, scratch}
 use Rattle.moment.specs.Holding.{marked}
 use Rattle.reason_list.specs.Listing.{waitingIn}
 use Rattle.reason_trim.specs.Trimming.{Followed}
@@ -23,12 +24,12 @@ applied w a = marked w a && not (eqb (secondOf w a) 0)
 
 -- From w to w′ its first record came to the list's place c, if it is such a join: now there are r.
 pub record Chosen (w w′ : List ℕ) (a c r : ℕ) : Type 0 where
-  pub is : w′ ≡ cond (applied w a) (set w (17003 + c) (firstOf w a)) w
+  pub is : w′ ≡ cond (applied w a) (set w (LIST .at + c) (firstOf w a)) w
   pub many : r ≡ tick (applied w a) c
 
 -- From w to w′ the first records of all such joins older than `limit` were listed, each at its own place, before all that waits.
 pub record Firsts (w w′ : List ℕ) (limit c : ℕ) : Type 0 where
-  pub kept : Within 17003 19003 w w′
+  pub kept : Within frontPart w w′
   pub many : c ≡ count (applied w) limit
   pub at : (a : ℕ) → a < limit → T (applied w a) → listOf w′ (count (applied w) a) ≡ firstOf w a
 
@@ -44,6 +45,6 @@ pub record Comparing (N len limit n s t : ℕ) (w : List ℕ) : Type 0 where
 
 -- From w to w′ they still wait, and where the answer is true none of them can be spared.
 pub record Compared (len n s t : ℕ) (w w′ : List ℕ) (answer : Bool) : Type 0 where
-  pub kept : Within 17003 32096 w w′
+  pub kept : Within scratch w w′
   pub waits : waitingIn n w′ ≡ waitingIn n w
   pub unspared : answer ≡ true → (m : ℕ) → List·Memᴰ m (waitingIn n w) → Follows (Without (recordsIn len w) (waitingIn n w) m) s t → ⊥

@@ -2,13 +2,15 @@
 // be spared. Document 01, "Reasons". Rests on reason_list and reason_trim, on list_close and on table.
 ghost use Prim.Native.Nat.{_≤_, _<_};
 ghost use lib.ListN.{length};
+ghost use Rattle.meaning.specs.Limits.{mostTags};
+ghost use Rattle.table.specs.Places.{Large};
 ghost use Rattle.reason_trim.specs.Trimming.{Pruned};
 ghost use Rattle.reason_spare.specs.Comparing.{Chosen, Firsts, Comparing, Compared};
 use meaning::Tag;
 
 // If the join of age a is marked and is of two applications, the first of them comes to the list's place c. Says how many are there then.
 fn list_first(work: &mut [u16], a: usize, c: usize) -> usize
-    requires { ⌜ (32768 ≤ length (now work)) × (a < 1000) × (c < 1000) ⌝ }
+    requires { ⌜ Large (now work) × (a < mostTags) × (c < mostTags) ⌝ }
     ensures { λ r. ⌜ Chosen (now (work .entry)) (now (work .exit)) a c r ⌝ }
 {
     if table::mark(work, a) != 1 {
@@ -25,7 +27,7 @@ fn list_first(work: &mut [u16], a: usize, c: usize) -> usize
 
 // The first applications of all such joins older than `limit`. Says how many they are.
 fn list_firsts(work: &mut [u16], limit: usize) -> usize
-    requires { ⌜ (32768 ≤ length (now work)) × (limit ≤ 1000) ⌝ }
+    requires { ⌜ Large (now work) × (limit ≤ mostTags) ⌝ }
     ensures { λ c. ⌜ Firsts (now (work .entry)) (now (work .exit)) limit c ⌝ }
 {
     let mut c: usize = 0;

@@ -2,6 +2,8 @@
 // spared. Document 01, "Reasons". Rests on table, moment, list_close, reason_trim and reason_order.
 ghost use Prim.Native.Nat.{_≤_, _<_};
 ghost use lib.ListN.{length};
+ghost use Rattle.meaning.specs.Limits.{mostRecords, mostTags};
+ghost use Rattle.table.specs.Places.{Large, waitingAt};
 ghost use Rattle.moment.specs.Posed.{Deciding};
 ghost use Rattle.reason_test.specs.Lists.{Swapped, Arranged, Brought, Moved, Named, Entailed, NoneSpare, Sufficient};
 use meaning::RecordNo;
@@ -9,7 +11,7 @@ use moment::Question;
 
 // Two places of the list exchange their numbers.
 fn swap(work: &mut [u16], i: usize, j: usize)
-    requires { ⌜ (32768 ≤ length (now work)) × (i < 4000) × (j < 4000) ⌝ }
+    requires { ⌜ Large (now work) × (i < mostRecords) × (j < mostRecords) ⌝ }
     ensures { λ _. ⌜ Swapped i j (now (work .entry)) (now (work .exit)) ⌝ }
 {
     let a = table::listed(work, i);
@@ -20,7 +22,7 @@ fn swap(work: &mut [u16], i: usize, j: usize)
 
 // The first numbers of the list come to where those wait that are tried.
 fn put_waiting(work: &mut [u16], count: usize)
-    requires { ⌜ (32768 ≤ length (now work)) × (count ≤ 2000) ⌝ }
+    requires { ⌜ Large (now work) × (count ≤ waitingAt) ⌝ }
     ensures { λ _. ⌜ Moved count (now (work .entry)) (now (work .exit)) ⌝ }
 {
     let mut i = 0;
@@ -55,7 +57,7 @@ fn suffices(work: &mut [u16], count: usize, q: Question) -> bool
 
 // If record r stands in the list from place p on, it comes to place p. Says which place is next.
 fn bring(work: &mut [u16], count: usize, p: usize, r: RecordNo) -> usize
-    requires { ⌜ (32768 ≤ length (now work)) × (count ≤ 4000) × (p ≤ count) ⌝ }
+    requires { ⌜ Large (now work) × (count ≤ mostRecords) × (p ≤ count) ⌝ }
     ensures { λ n. ⌜ Brought count n (now (work .entry)) (now (work .exit)) ⌝ }
 {
     let mut j = p;
@@ -72,7 +74,7 @@ fn bring(work: &mut [u16], count: usize, p: usize, r: RecordNo) -> usize
 
 // The same for both records of the join of age a.
 fn bring_both(work: &mut [u16], count: usize, p: usize, a: usize) -> usize
-    requires { ⌜ (32768 ≤ length (now work)) × (count ≤ 4000) × (p ≤ count) × (a < 1000) ⌝ }
+    requires { ⌜ Large (now work) × (count ≤ mostRecords) × (p ≤ count) × (a < mostTags) ⌝ }
     ensures { λ n. ⌜ Brought count n (now (work .entry)) (now (work .exit)) ⌝ }
 {
     let r = table::first(work, a);
@@ -83,7 +85,7 @@ fn bring_both(work: &mut [u16], count: usize, p: usize, a: usize) -> usize
 
 // Puts the list into the order in which the closure of all records came to use them: in that order its own closure needs few passes.
 fn arrange(work: &mut [u16], count: usize, joins: usize)
-    requires { ⌜ (32768 ≤ length (now work)) × (count ≤ 4000) × (joins ≤ 1000) ⌝ }
+    requires { ⌜ Large (now work) × (count ≤ mostRecords) × (joins ≤ mostTags) ⌝ }
     ensures { λ _. ⌜ Arranged count (now (work .entry)) (now (work .exit)) ⌝ }
 {
     let mut p = 0;

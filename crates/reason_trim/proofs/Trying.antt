@@ -10,8 +10,10 @@ use mathlib.Core.List.{List, [], _∷_, List·Memᴰ, List·Memᴰ·head, List·
 use lib.ListN.{length, set}
 use Rattle.meaning.specs.Following.{Follows, Those, Only}
 use Rattle.meaning.proofs.Close.{more-of}
+use Rattle.meaning.specs.Limits.{mostRecords}
 use Rattle.table.specs.Map.{listOf, listIn, recordsIn, Within}
 use Rattle.table.proofs.Frame.{seen-within, gather-same, gather-in, in-gather, within-refl, within-trans, within-wider, within-set}
+use Rattle.table.specs.Places.{LABEL, LIST, Large, MARKS, allOf, beforeMarks, fromTo, scratch, spare, waitingAt}
 use Rattle.list_close.specs.Closing.{Listed, Saved}
 use Rattle.list_close.proofs.Saving.{saved-more, saved-within}
 use Rattle.moment.proofs.Kept.{kept-records, kept-loaded}
@@ -23,15 +25,15 @@ use Rattle.reason_list.proofs.Gathering.{list-hit, list-miss}
 pub copied-start : (w : List ℕ) (from to : ℕ) → Copied w w from to 0
 copied-start w from to = record { kept = within-refl w; same = λ x h. refl; copy = λ j l. absurd (omega arith) }
 
-pub copied-more : {w w₁ w₂ : List ℕ} {from to count k : ℕ} (j : ℕ) → 32768 ≤ length w → to + count ≤ from → from + count ≤ 4000 → j < count → k ≡ listOf w₁ (from + j) → w₂ ≡ set w₁ (17003 + (to + j)) k
+pub copied-more : {w w₁ w₂ : List ℕ} {from to count k : ℕ} (j : ℕ) → Large w → to + count ≤ from → from + count ≤ mostRecords → j < count → k ≡ listOf w₁ (from + j) → w₂ ≡ set w₁ (LIST .at + (to + j)) k
     → Copied w w₁ from to j → Copied w w₂ from to (suc j)
 copied-more {w} {w₁} {w₂} {from} {to} {count} {k} j h l m i q e c = rw e (record {
-  kept = within-trans (c .kept) (within-set 17003 21003 w₁ (17003 + (to + j)) k (omega arith) (omega arith));
+  kept = within-trans (c .kept) (within-set (allOf LIST) w₁ (LIST .at + (to + j)) k (omega arith) (omega arith));
   same = λ x o. list-miss w₁ (to + j) k x (omega arith) long (apart x o) ∙ c .same x (out x o);
   copy = λ x y. last x y (ℕ-discrete x j);
 })
   where
-    long : 32768 ≤ length w₁
+    long : Large w₁
     long = omega (arith, c .kept .size)
 
     apart : (x : ℕ) → (x < to) ⊎ (to + suc j ≤ x) → x ≢ to + j
@@ -42,13 +44,13 @@ copied-more {w} {w₁} {w₂} {from} {to} {count} {k} j h l m i q e c = rw e (re
     out x (inl o) = inl o
     out x (inr o) = inr (omega arith)
 
-    last : (x : ℕ) → x < suc j → Dec (x ≡ j) → listOf (set w₁ (17003 + (to + j)) k) (to + x) ≡ listOf w (from + x)
+    last : (x : ℕ) → x < suc j → Dec (x ≡ j) → listOf (set w₁ (LIST .at + (to + j)) k) (to + x) ≡ listOf w (from + x)
     last x y (yes z) = rw z (list-hit w₁ (to + j) k (omega arith) long ∙ q ∙ c .same (from + j) (inr (omega arith)))
     last x y (no z) = list-miss w₁ (to + j) k (to + x) (omega arith) long (λ o. z (omega arith)) ∙ c .copy x (omega arith)
 
 -- Two tables that agree in what is kept and in what waits leave the same.
 record Agreeing (kept : ℕ) (w w′ : List ℕ) : Type 0 where
-  at : (x : ℕ) → (x < kept) ⊎ (2000 ≤ x) → listOf w′ x ≡ listOf w x
+  at : (x : ℕ) → (x < kept) ⊎ (waitingAt ≤ x) → listOf w′ x ≡ listOf w x
 
 agree-flip : {kept : ℕ} {w w′ : List ℕ} → Agreeing kept w w′ → Agreeing kept w′ w
 agree-flip h = record { at = λ x o. sym (h .at x o) }
@@ -58,19 +60,19 @@ agree-list {kept} {w} {w′} h = gather-same (listOf w′) (listOf w) kept (λ x
 
 left-same : {kept : ℕ} {w w′ : List ℕ} → Agreeing kept w w′ → (i n k : ℕ) → Left w kept i n k → Left w′ kept i n k
 left-same h i n k (inl m) = inl (rw (agree-list h) m)
-left-same h i n k (inr m) = inr (m .0, m .1, m .2, h .at (2000 + m .0) (inr (omega arith)) ∙ m .3)
+left-same h i n k (inr m) = inr (m .0, m .1, m .2, h .at (waitingAt + m .0) (inr (omega arith)) ∙ m .3)
 
 left-fewer : (w : List ℕ) (kept i j n k : ℕ) → i ≤ j → Left w kept j n k → Left w kept i n k
 left-fewer w kept i j n k l (inl m) = inl m
 left-fewer w kept i j n k l (inr m) = inr (m .0, omega (arith, m .1), m .2, m .3)
 
 -- All but the one at i stay when that is taken out.
-left-other : (w : List ℕ) (kept i j n k : ℕ) → j ≡ suc i → k ≢ listOf w (2000 + i) → Left w kept i n k → Left w kept j n k
+left-other : (w : List ℕ) (kept i j n k : ℕ) → j ≡ suc i → k ≢ listOf w (waitingAt + i) → Left w kept i n k → Left w kept j n k
 left-other w kept i j n k e d (inl m) = inl m
 left-other w kept i j n k e d (inr m) = go (ℕ-discrete (m .0) i)
   where
     go : Dec (m .0 ≡ i) → Left w kept j n k
-    go (yes q) = absurd (d (sym (m .3) ∙ ap (λ (x : ℕ). listOf w (2000 + x)) q))
+    go (yes q) = absurd (d (sym (m .3) ∙ ap (λ (x : ℕ). listOf w (waitingAt + x)) q))
     go (no q) = inr (m .0, omega (arith, m .1), m .2, m .3)
 
 -- What was tried, with what is tried next.
@@ -87,16 +89,16 @@ tried-more o g h = record {
 }
 
 pub tried-wider : {e e′ N len s t kept i j n kept′ : ℕ} {w w′ : List ℕ} → e ≤ e′ → Tried e N len s t w w′ kept i j n kept′ → Tried e′ N len s t w w′ kept i j n kept′
-tried-wider {e′ = e′} l h = record { kept-in = within-wider 17003 e′ (omega arith) l (h .kept-in); fewer = h .fewer; stays = h .stays; trying = h .trying }
+tried-wider {e′ = e′} l h = record { kept-in = within-wider (fromTo (LIST .at) e′) (omega arith) l (h .kept-in); fewer = h .fewer; stays = h .stays; trying = h .trying }
 
 -- The labels that are saved follow from what will be left, and still do.
-pub tried-saved : {N len s t kept i j m n joins kept′ : ℕ} {w w′ : List ℕ} → Tried 30096 N len s t w w′ kept i j n kept′ → j < m → Saved N len (Left w kept m n) w joins
+pub tried-saved : {N len s t kept i j m n joins kept′ : ℕ} {w w′ : List ℕ} → Tried (MARKS .at) N len s t w w′ kept i j n kept′ → j < m → Saved N len (Left w kept m n) w joins
     → Saved N len (Left w′ kept′ (j + 1) n) w′ joins
 tried-saved {j = j} {m = m} {n = n} {kept′ = kept′} {w′ = w′} h l s =
-    saved-within (within-wider 12003 30096 (omega arith) (omega arith) (h .kept-in)) (saved-more (λ k x. left-fewer w′ kept′ (j + 1) m n k (omega arith) (h .stays m k (omega arith) x)) s)
+    saved-within (within-wider beforeMarks (omega arith) (omega arith) (h .kept-in)) (saved-more (λ k x. left-fewer w′ kept′ (j + 1) m n k (omega arith) (h .stays m k (omega arith) x)) s)
 
 -- Those from i up to j are tried: what is left without them is copied, and closed.
-module _ {N len s t kept i j n rest : ℕ} {w w₁ : List ℕ} (T : Trying N len s t w kept i n) (from : i ≤ j) (to : j ≤ n) (count : rest ≡ n - j) (c : Copied w w₁ (2000 + j) kept rest) where
+module _ {N len s t kept i j n rest : ℕ} {w w₁ : List ℕ} (T : Trying N len s t w kept i n) (from : i ≤ j) (to : j ≤ n) (count : rest ≡ n - j) (c : Copied w w₁ (waitingAt + j) kept rest) where
   list-left : (k : ℕ) → List·Memᴰ k (listIn (kept + rest) w₁) → Left w kept j n k
   list-left k m = go (decLt (x .0) kept)
     where
@@ -109,7 +111,7 @@ module _ {N len s t kept i j n rest : ℕ} {w w₁ : List ℕ} (T : Trying N len
           let y : ℕ = x .0 - kept in
           let b : y < rest = omega (arith, x .1) in
           let e : kept + y ≡ x .0 = omega arith in
-          let e′ : 2000 + j + y ≡ 2000 + (j + y) = omega arith in
+          let e′ : waitingAt + j + y ≡ waitingAt + (j + y) = omega arith in
           inr (j + y, omega arith, omega arith, sym (ap (listOf w) e′) ∙ sym (c .copy y b) ∙ ap (listOf w₁) e ∙ x .2)
 
   left-list : (k : ℕ) → Left w kept j n k → List·Memᴰ k (listIn (kept + rest) w₁)
@@ -119,7 +121,7 @@ module _ {N len s t kept i j n rest : ℕ} {w w₁ : List ℕ} (T : Trying N len
   left-list k (inr m) =
       let y : ℕ = m .0 - j in
       let b : y < rest = omega (arith, m .1, m .2) in
-      let e : 2000 + j + y ≡ 2000 + m .0 = omega (arith, m .1) in
+      let e : waitingAt + j + y ≡ waitingAt + m .0 = omega (arith, m .1) in
       rw (← m .3, ← e, ← c .copy y b) (gather-in (listOf w₁) (kept + rest) (kept + y) (omega arith))
 
   pub tried-listed : Listed N len (kept + rest) w₁
@@ -130,16 +132,16 @@ module _ {N len s t kept i j n rest : ℕ} {w w₁ : List ℕ} (T : Trying N len
   }
 
   pub tried-held : {joins : ℕ} → Saved N len (Left w kept j n) w joins → Saved N len (λ k. List·Memᴰ k (listIn (kept + rest) w₁)) w₁ joins
-  tried-held h = saved-within (within-wider 12003 30096 (omega arith) (omega arith) (c .kept)) (saved-more left-list h)
+  tried-held h = saved-within (within-wider beforeMarks (omega arith) (omega arith) (c .kept)) (saved-more left-list h)
 
-  module _ {e : ℕ} {w₂ : List ℕ} {answer : Bool} (scratch : 21003 ≤ e) (f : Within 21003 e w₁ w₂) (exact : (answer ≡ true) ↔ Follows (Only (recordsIn len w₁) (listIn (kept + rest) w₁)) s t) where
-    pub whole : Within 17003 e w w₂
-    whole = within-trans (within-wider 17003 e (omega arith) scratch (c .kept)) (within-wider 17003 e (omega arith) (omega arith) f)
+  module _ {e : ℕ} {w₂ : List ℕ} {answer : Bool} (scratch-kept : (LABEL .at) ≤ e) (f : Within (fromTo (LABEL .at) e) w₁ w₂) (exact : (answer ≡ true) ↔ Follows (Only (recordsIn len w₁) (listIn (kept + rest) w₁)) s t) where
+    pub whole : Within (fromTo (LIST .at) e) w w₂
+    whole = within-trans (within-wider (fromTo (LIST .at) e) (omega arith) scratch-kept (c .kept)) (within-wider (fromTo (LIST .at) e) (omega arith) (omega arith) f)
 
     agree : Agreeing kept w w₂
-    agree = record { at = λ x o. ap (λ (g : ℕ → ℕ). g x) (seen-within 17003 4000 (λ y. 0) f (inl (omega arith))) ∙ c .same x (out x o) }
+    agree = record { at = λ x o. ap (λ (g : ℕ → ℕ). g x) (seen-within LIST f (inl (omega arith))) ∙ c .same x (out x o) }
       where
-        out : (x : ℕ) → (x < kept) ⊎ (2000 ≤ x) → (x < kept) ⊎ (kept + rest ≤ x)
+        out : (x : ℕ) → (x < kept) ⊎ (waitingAt ≤ x) → (x < kept) ⊎ (kept + rest ≤ x)
         out x (inl l) = inl l
         out x (inr l) = inr (omega (arith, T .few, T .short))
 
@@ -194,25 +196,25 @@ module _ {N len s t kept i j n rest : ℕ} {w w₁ : List ℕ} (T : Trying N len
     tried-saving h = saved-more (λ k m. left-same agree j n k (list-left k m)) h
 
     -- They do not, and the other is one: it stays.
-    module _ {w₃ : List ℕ} (single : j ≡ suc i) (K : Copied w₂ w₃ (2000 + i) kept 1) (q : answer ≡ false) where
+    module _ {w₃ : List ℕ} (single : j ≡ suc i) (K : Copied w₂ w₃ (waitingAt + i) kept 1) (q : answer ≡ false) where
       abbrev one : ℕ
-      one = listOf w (2000 + i)
+      one = listOf w (waitingAt + i)
 
       here : listOf w₃ kept ≡ one
       here =
           let z : kept + 0 ≡ kept = omega arith in
-          let y : 2000 + i + 0 ≡ 2000 + i = omega arith in
-          sym (ap (listOf w₃) z) ∙ K .copy 0 (omega arith) ∙ ap (listOf w₂) y ∙ agree .at (2000 + i) (inr (omega arith))
+          let y : waitingAt + i + 0 ≡ waitingAt + i = omega arith in
+          sym (ap (listOf w₃) z) ∙ K .copy 0 (omega arith) ∙ ap (listOf w₂) y ∙ agree .at (waitingAt + i) (inr (omega arith))
 
       agree₃ : Agreeing kept w w₃
       agree₃ = record { at = λ x o. K .same x (out x o) ∙ agree .at x o }
         where
-          out : (x : ℕ) → (x < kept) ⊎ (2000 ≤ x) → (x < kept) ⊎ (kept + 1 ≤ x)
+          out : (x : ℕ) → (x < kept) ⊎ (waitingAt ≤ x) → (x < kept) ⊎ (kept + 1 ≤ x)
           out x (inl l) = inl l
           out x (inr l) = inr (omega (arith, T .few, T .short))
 
-      whole₃ : Within 17003 e w w₃
-      whole₃ = within-trans whole (within-wider 17003 e (omega arith) scratch (K .kept))
+      whole₃ : Within (fromTo (LIST .at) e) w w₃
+      whole₃ = within-trans whole (within-wider (fromTo (LIST .at) e) (omega arith) scratch-kept (K .kept))
 
       records₃ : recordsIn len w₃ ≡ recordsIn len w
       records₃ = kept-records whole₃ len
@@ -267,13 +269,13 @@ module _ {N len s t kept i j n rest : ℕ} {w w₁ : List ℕ} (T : Trying N len
 
 -- From the first that waits to the last.
 pub record Pruning (N len s t : ℕ) (w w′ : List ℕ) (n kept i : ℕ) : Type 0 where
-  pub kept-in : Within 17003 32096 w w′
+  pub kept-in : Within scratch w w′
   pub fewer : (k : ℕ) → Left w′ kept i n k → List·Memᴰ k (waitingIn n w)
   pub trying : Trying N len s t w′ kept i n
 
 waits : (w : List ℕ) (n k : ℕ) → Left w 0 0 n k → List·Memᴰ k (waitingIn n w)
 waits w n k (inl m) = absurd (List·Memᴰ·not-nil m)
-waits w n k (inr m) = rw (← m .3) (gather-in (λ j. listOf w (2000 + j)) n (m .0) (m .2))
+waits w n k (inr m) = rw (← m .3) (gather-in (λ j. listOf w (waitingAt + j)) n (m .0) (m .2))
 
 pub pruning-start : {N len s t n : ℕ} {w : List ℕ} → Followed N len s t w n → Pruning N len s t w w n 0 0
 pruning-start {n = n} {w = w} f = record {
@@ -287,12 +289,12 @@ pruning-start {n = n} {w = w} f = record {
     on = omega arith;
     short = f .short;
     named = λ k m. f .named k (waits w n k m);
-    entails = more-of (λ k m. let j = in-gather (λ j. listOf w (2000 + j)) n k m in inr (j .0, omega arith, j .1, j .2)) (f .entails);
+    entails = more-of (λ k m. let j = in-gather (λ j. listOf w (waitingAt + j)) n k m in inr (j .0, omega arith, j .1, j .2)) (f .entails);
     unspared = λ m j. absurd (List·Memᴰ·not-nil j);
   };
 }
 
-pub pruning-more : {N len s t n kept i j r : ℕ} {w w₁ w₂ : List ℕ} → Pruning N len s t w w₁ n kept i → Tried 32096 N len s t w₁ w₂ kept i j n r → Pruning N len s t w w₂ n r j
+pub pruning-more : {N len s t n kept i j r : ℕ} {w w₁ w₂ : List ℕ} → Pruning N len s t w w₁ n kept i → Tried spare N len s t w₁ w₂ kept i j n r → Pruning N len s t w w₂ n r j
 pruning-more p h = record { kept-in = within-trans (p .kept-in) (h .kept-in); fewer = λ k m. p .fewer k (h .fewer k m); trying = h .trying }
 
 pub pruning-end : {N len s t n kept : ℕ} {w w′ : List ℕ} → Pruning N len s t w w′ n kept n → Pruned N len s t w w′ n kept

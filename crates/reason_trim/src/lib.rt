@@ -3,6 +3,8 @@
 // closure begins with that of the list without the block. Document 01, "Reasons". Rests on reason_list, on list_close and on table.
 ghost use Prim.Native.Nat.{_+_, _≤_, _<_};
 ghost use lib.ListN.{length};
+ghost use Rattle.meaning.specs.Limits.{mostRecords};
+ghost use Rattle.table.specs.Places.{Large, MARKS, mostWaiting, spare};
 ghost use Rattle.list_close.specs.Closing.{Saved};
 ghost use Rattle.reason_trim.specs.Trimming.{Copied, Left, Trying, Tried, Pruned, Followed};
 use meaning::Tag;
@@ -21,7 +23,7 @@ struct Trial {
 
 // The `count` numbers of the list from `from` on, which stand behind, are written from `to` on.
 pub fn copy(work: &mut [u16], from: usize, to: usize, count: usize)
-    requires { ⌜ (32768 ≤ length (now work)) × (to + count ≤ from) × (from + count ≤ 4000) ⌝ }
+    requires { ⌜ Large (now work) × (to + count ≤ from) × (from + count ≤ mostRecords) ⌝ }
     ensures { λ _. ⌜ Copied (now (work .entry)) (now (work .exit)) from to count ⌝ }
 {
     let mut j: usize = 0;
@@ -36,7 +38,7 @@ pub fn copy(work: &mut [u16], from: usize, to: usize, count: usize)
 // many joins, follow from the others. Says how many are kept then.
 fn try_one(work: &mut [u16], q: Trial, kept: usize, i: usize, joins: usize) -> usize
     requires { ⌜ Trying (q .size) (q .len) (q .s .0) (q .t .0) (now work) kept i (q .n) × (i < q .n) × Saved (q .size) (q .len) (Left (now work) kept (i + 1) (q .n)) (now work) joins ⌝ }
-    ensures { λ r. ⌜ Tried 30096 (q .size) (q .len) (q .s .0) (q .t .0) (now (work .entry)) (now (work .exit)) kept i (i + 1) (q .n) r ⌝ }
+    ensures { λ r. ⌜ Tried (MARKS .at) (q .size) (q .len) (q .s .0) (q .t .0) (now (work .entry)) (now (work .exit)) kept i (i + 1) (q .n) r ⌝ }
 {
     let next = i + 1;
     let rest = q.n - next;
@@ -51,7 +53,7 @@ fn try_one(work: &mut [u16], q: Trial, kept: usize, i: usize, joins: usize) -> u
 // Tries those from the i-th up to the m-th one by one. The labels that are saved follow from what is left without all of them.
 fn try_each(work: &mut [u16], q: Trial, kept: usize, i: usize, m: usize, joins: usize) -> usize
     requires { ⌜ Trying (q .size) (q .len) (q .s .0) (q .t .0) (now work) kept i (q .n) × (i ≤ m) × (m ≤ q .n) × Saved (q .size) (q .len) (Left (now work) kept m (q .n)) (now work) joins ⌝ }
-    ensures { λ r. ⌜ Tried 30096 (q .size) (q .len) (q .s .0) (q .t .0) (now (work .entry)) (now (work .exit)) kept i m (q .n) r ⌝ }
+    ensures { λ r. ⌜ Tried (MARKS .at) (q .size) (q .len) (q .s .0) (q .t .0) (now (work .entry)) (now (work .exit)) kept i m (q .n) r ⌝ }
 {
     let mut made = kept;
     let mut j = i;
@@ -65,7 +67,7 @@ fn try_each(work: &mut [u16], q: Trial, kept: usize, i: usize, m: usize, joins: 
 // Tries those from the i-th up to the m-th: all go at once if what is left without them makes s and t equal.
 fn try_block(work: &mut [u16], q: Trial, kept: usize, i: usize, m: usize) -> usize
     requires { ⌜ Trying (q .size) (q .len) (q .s .0) (q .t .0) (now work) kept i (q .n) × (i ≤ m) × (m ≤ q .n) ⌝ }
-    ensures { λ r. ⌜ Tried 32096 (q .size) (q .len) (q .s .0) (q .t .0) (now (work .entry)) (now (work .exit)) kept i m (q .n) r ⌝ }
+    ensures { λ r. ⌜ Tried spare (q .size) (q .len) (q .s .0) (q .t .0) (now (work .entry)) (now (work .exit)) kept i m (q .n) r ⌝ }
 {
     let rest = q.n - m;
     copy(work, reason_list::WAITING + m, kept, rest);
@@ -78,7 +80,7 @@ fn try_block(work: &mut [u16], q: Trial, kept: usize, i: usize, m: usize) -> usi
 
 // Where the block ends that begins at i, of the n that wait.
 fn block_end(i: usize, n: usize) -> usize
-    requires { ⌜ (i < n) × (n ≤ 1998) ⌝ }
+    requires { ⌜ (i < n) × (n ≤ mostWaiting) ⌝ }
     ensures { λ m. ⌜ (i < m) × (m ≤ n) ⌝ }
 {
     if i + BLOCK < n {

@@ -10,6 +10,7 @@ use mathlib.Core.List.{List, [], _∷_, _++_}
 use lib.ListN.{length, getD}
 use Rattle.meaning.specs.Following.{Rec, eq, app}
 use Rattle.meaning.proofs.Reference.{Small}
+use Rattle.meaning.specs.Limits.{mostRecords, mostTags}
 use Rattle.job_field.specs.Items.{Head, Note, line, standsFor, tagsOfRecord, Item, noted, posed, accepted, recordsOf}
 use Rattle.job_field.specs.Reading.{behindAt, reading}
 use Rattle.job_field.specs.Standing.{Below, Tagged, Stands, next, Job}
@@ -19,6 +20,7 @@ use Rattle.records.specs.Table.{blank, recOf}
 use Rattle.records.proofs.Places.{place-means}
 use Rattle.table.specs.Map.{recAt, recordsIn, Loaded}
 use Rattle.table.proofs.Frame.{length-gather, getD-gather}
+use Rattle.table.specs.Places.{Large}
 use Rattle.records_fill.specs.Filling.{Filled}
 use Rattle.records_fill.specs.Loading.{held, Loadable, Carried}
 use Rattle.records_fill.specs.Handing.{Counts, Handable, Handed}
@@ -65,7 +67,7 @@ stands-small job N at (noted n ∷ is) (next e t l s) = all-append N (standsFor 
 stands-small job N at (posed q ∷ is) (next e t l s) = stands-small job N _ is s
 
 -- Nothing to load.
-pub none-loadable : (t : List Record) (w : List ℕ) → 32768 ≤ length w → Loadable 0 t w
+pub none-loadable : (t : List Record) (w : List ℕ) → Large w → Loadable 0 t w
 none-loadable t w h = record { most = omega arith; there = omega arith; long = h; small = λ k l. absurd (not-suc-le-zero l) }
 
 module _ (job : List ℕ) (H : Head) (items : List Item) (e : reading job ≡ accepted H items) (t t′ : List Record) where
@@ -92,12 +94,12 @@ module _ (job : List ℕ) (H : Head) (items : List Item) (e : reading job ≡ ac
     pub filled-held : held n t′ ≡ rs
     filled-held = same-values (held n t′) rs (eq 0 0) (length-gather _ n) (λ k l. getD-gather _ n k (eq 0 0) l ∙ filled-at k l)
 
-    pub filled-loadable : (w : List ℕ) → n ≤ length t → 32768 ≤ length w → Loadable n t′ w
+    pub filled-loadable : (w : List ℕ) → n ≤ length t → Large w → Loadable n t′ w
     filled-loadable w h l = record {
       most = taken .records;
       there = omega (arith, f .size, h);
       long = l;
-      small = λ k b. rw (filled-at k b) (small-more N 1000 (getD rs k (eq 0 0)) (taken .most) (job-small k b));
+      small = λ k b. rw (filled-at k b) (small-more N mostTags (getD rs k (eq 0 0)) (taken .most) (job-small k b));
     }
 
     module _ (w w′ : List ℕ) (c : Carried n t′ w w′) where
@@ -106,7 +108,7 @@ module _ (job : List ℕ) (H : Head) (items : List Item) (e : reading job ≡ ac
       carried-records = c .same ∙ filled-held
 
       -- .. with tags below N.
-      pub carried-loaded : 32768 ≤ length w → Loaded N n w′
+      pub carried-loaded : Large w → Loaded N n w′
       carried-loaded l = record {
         long = omega (arith, c .frame .size, l);
         some = taken .some;
@@ -117,10 +119,10 @@ module _ (job : List ℕ) (H : Head) (items : List Item) (e : reading job ≡ ac
 
 -- ---- the whole way, for `take_in`
 module _ (job : List ℕ) (t : List Record) (w : List ℕ) (n : ℕ) (h : Handable job t w n) where
-  pub few : n ≤ 4000
+  pub few : n ≤ mostRecords
   few = go (h .count)
     where
-      go : (n ≡ 0) ⊎ Counts job n → n ≤ 4000
+      go : (n ≡ 0) ⊎ Counts job n → n ≤ mostRecords
       go (inl z) = omega arith
       go (inr c) = omega (arith, c .records, accepted-stands job (c .head) (c .items) (c .reads) .records)
 
@@ -139,7 +141,7 @@ module _ (job : List ℕ) (t : List Record) (w : List ℕ) (n : ℕ) (h : Handab
   pub taken-in : (t′ : List Record) (w′ : List ℕ) → Filled job n t t′ → Carried n t′ w w′ → Handed job t w n t′ w′
   taken-in t′ w′ f c = record {
     size = f .size;
-    rest = drop-further n 4000 t′ t few (f .rest);
+    rest = drop-further n mostRecords t′ t few (f .rest);
     frame = c .frame;
     loaded = λ H items e k. subst (λ (m : ℕ). Loaded (H .size) m w′) (sym k) (carried-loaded job H items e t t′ (subst (λ (m : ℕ). Filled job m t t′) k f) w w′ (subst (λ (m : ℕ). Carried m t′ w w′) k c) (h .numbers));
     records = λ H items e k. subst (λ (m : ℕ). recordsIn m w′ ≡ recordsOf items) (sym k) (carried-records job H items e t t′ (subst (λ (m : ℕ). Filled job m t t′) k f) w w′ (subst (λ (m : ℕ). Carried m t′ w w′) k c));

@@ -5,10 +5,12 @@ use mathlib.Core.Path.{_≡_}
 use mathlib.Core.Logic.{_⊎_}
 use mathlib.Core.List.{List}
 use lib.ListN.{length, drop}
+use Rattle.meaning.specs.Limits.{namedNumbers, namedPlaces}
 use Rattle.job_field.specs.Items.{Head, Item, accepted, recordsOf}
-use Rattle.job_field.specs.Reading.{namedPlaces, namedNumbers, reading}
+use Rattle.job_field.specs.Reading.{reading}
 use Rattle.records.specs.declared.Record.{Record}
 use Rattle.table.specs.Map.{recordsIn, Within, Loaded}
+use Rattle.table.specs.Places.{columnsPart}
 
 -- The job is accepted and has n records.
 pub record Counts (job : List ℕ) (n : ℕ) : Type 0 where
@@ -28,6 +30,6 @@ pub record Handable (job : List ℕ) (t : List Record) (w : List ℕ) (n : ℕ) 
 pub record Handed (job : List ℕ) (t : List Record) (w : List ℕ) (n : ℕ) (t′ : List Record) (w′ : List ℕ) : Type 0 where
   pub size : length t′ ≡ length t
   pub rest : drop namedPlaces t′ ≡ drop namedPlaces t
-  pub frame : Within 0 12003 w w′
+  pub frame : Within columnsPart w w′
   pub loaded : (H : Head) (items : List Item) → reading job ≡ accepted H items → n ≡ length (recordsOf items) → Loaded (H .size) n w′
   pub records : (H : Head) (items : List Item) → reading job ≡ accepted H items → n ≡ length (recordsOf items) → recordsIn n w′ ≡ recordsOf items

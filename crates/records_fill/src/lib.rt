@@ -2,6 +2,8 @@
 // columns. Document 01, "The job and the report" and "What is lent, and each refusal". Rests on job_field, records and table.
 ghost use mathlib.Core.Path.{_≡_};
 ghost use Rattle.meaning.specs.Following.{eq, app};
+ghost use Rattle.meaning.specs.Limits.{mostRecords};
+ghost use Rattle.table.specs.Places.{Large};
 ghost use Rattle.job_field.specs.Items.{standsFor};
 ghost use Rattle.job_field.specs.Reading.{fieldAt};
 ghost use Rattle.job_field.specs.Answer.{noteSaid};
@@ -138,7 +140,7 @@ pub fn fill(job: &[u8], records: &mut [Record], n: usize)
 
 // What stands at place i comes to the columns, as record number i + 1.
 fn load_one(work: &mut [u16], i: usize, p: Record)
-    requires { ⌜ (32768 ≤ length (now work)) × (i < 4000) ⌝ }
+    requires { ⌜ Large (now work) × (i < mostRecords) ⌝ }
     ensures { λ _. ⌜ now (work .exit) ≡ carry (now (work .entry)) i p ⌝ }
 {
     let r = RecordNo(i as u16 + 1);

@@ -5,7 +5,9 @@ ghost use mathlib.Core.Logic.{_↔_};
 ghost use mathlib.Core.Bool.{true};
 ghost use Prim.Native.Nat.{ℕ, _+_, _*_, _≤_, _<_};
 ghost use lib.ListN.{length};
+ghost use Rattle.meaning.specs.Limits.{mostRecords};
 ghost use Rattle.table.specs.Map.{listOf, listIn};
+ghost use Rattle.table.specs.Places.{Large};
 ghost use Rattle.report.specs.Report.{two, numbers, field, laid};
 ghost use Rattle.report_read.specs.Read.{Holds};
 ghost use Rattle.report_numbers.specs.Read.{Placed, ListRead};
@@ -17,7 +19,7 @@ use report_write::put_number;
 
 // The record number at a place of the list goes to its place in a reason whose numbers begin at `at`.
 fn put_listed(room: &mut [u8], at: usize, work: &[u16], i: usize)
-    requires { ⌜ (32768 ≤ length (now work)) × (i < 4000) × (at + 2 * i + 2 ≤ length (now room)) ⌝ }
+    requires { ⌜ Large (now work) × (i < mostRecords) × (at + 2 * i + 2 ≤ length (now room)) ⌝ }
     ensures { λ _. ⌜ now (room .exit) ≡ laid (at + 2 * i) (two (listOf (now (work .entry)) i)) (now (room .entry)) ⌝ }
 {
     let r = table::listed(work, i);
@@ -26,7 +28,7 @@ fn put_listed(room: &mut [u8], at: usize, work: &[u16], i: usize)
 
 // The answer to an explain where the equality follows: the first numbers of the list.
 pub fn write_reason(room: &mut [u8], at: usize, work: &[u16], count: usize)
-    requires { ⌜ (32768 ≤ length (now work)) × (count ≤ 4000) × (at + 3 + 2 * count ≤ length (now room)) ⌝ }
+    requires { ⌜ Large (now work) × (count ≤ mostRecords) × (at + 3 + 2 * count ≤ length (now room)) ⌝ }
     ensures { λ _. ⌜ now (room .exit) ≡ laid at (field 132 (numbers (listIn count (now (work .entry))))) (now (room .entry)) ⌝ }
 {
     put_front(room, at, BECAUSE, (2 * count) as u16);
@@ -39,7 +41,7 @@ pub fn write_reason(room: &mut [u8], at: usize, work: &[u16], count: usize)
 
 // The number at a place of a reason whose numbers begin at `at` comes to its place in the list.
 fn read_listed(report: &[u8], at: usize, work: &mut [u16], i: usize)
-    requires { ⌜ (32768 ≤ length (now work)) × (i < 4000) × (at + 2 * i + 2 ≤ length (now report)) ⌝ }
+    requires { ⌜ Large (now work) × (i < mostRecords) × (at + 2 * i + 2 ≤ length (now report)) ⌝ }
     ensures { λ _. ⌜ Placed (now (report .entry)) (at + 2 * i) i (now (work .entry)) (now (work .exit)) ⌝ }
 {
     let n = number_in(report, at + 2 * i);
@@ -48,7 +50,7 @@ fn read_listed(report: &[u8], at: usize, work: &mut [u16], i: usize)
 
 // The numbers of a reason come to the front of the list.
 pub fn read_reason(report: &[u8], at: usize, work: &mut [u16], count: usize)
-    requires { ⌜ (32768 ≤ length (now work)) × (count ≤ 4000) × (at + 2 * count ≤ length (now report)) ⌝ }
+    requires { ⌜ Large (now work) × (count ≤ mostRecords) × (at + 2 * count ≤ length (now report)) ⌝ }
     ensures { λ _. ⌜ ListRead (now (report .entry)) at count (now (work .entry)) (now (work .exit)) ⌝ }
 {
     let mut i = 0;
@@ -60,7 +62,7 @@ pub fn read_reason(report: &[u8], at: usize, work: &mut [u16], count: usize)
 
 // Whether the number at a place of the list stands at its place in a reason whose numbers begin at `at`.
 fn is_listed(report: &[u8], at: usize, work: &[u16], i: usize) -> bool
-    requires { ⌜ (32768 ≤ length (now work)) × (i < 4000) × (at + 2 * i + 2 ≤ length (now report)) ⌝ }
+    requires { ⌜ Large (now work) × (i < mostRecords) × (at + 2 * i + 2 ≤ length (now report)) ⌝ }
     ensures { λ r. ⌜ (r ≡ true) ↔ Holds (now (report .entry)) (at + 2 * i) (two (listOf (now (work .entry)) i)) ⌝ }
 {
     let r = table::listed(work, i);
@@ -69,7 +71,7 @@ fn is_listed(report: &[u8], at: usize, work: &[u16], i: usize) -> bool
 
 // Whether the first numbers of the list stand at a place, one behind the other.
 pub fn is_list(report: &[u8], at: usize, work: &[u16], count: usize) -> bool
-    requires { ⌜ (32768 ≤ length (now work)) × (count ≤ 4000) × (at + 2 * count ≤ length (now report)) ⌝ }
+    requires { ⌜ Large (now work) × (count ≤ mostRecords) × (at + 2 * count ≤ length (now report)) ⌝ }
     ensures { λ r. ⌜ (r ≡ true) ↔ Holds (now (report .entry)) at (numbers (listIn count (now (work .entry)))) ⌝ }
 {
     let mut i = 0;

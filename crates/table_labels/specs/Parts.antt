@@ -6,7 +6,9 @@ use mathlib.Core.Bool.{Bool, cond}
 use mathlib.Core.List.{List}
 use lib.ListN.{length, getD}
 use Rattle.meaning.specs.Labels.{into}
+use Rattle.meaning.specs.Limits.{mostRecords, mostTags}
 use Rattle.table.specs.Map.{leftOf, rightOf, labelOf, savedOf, seen, Within}
+use Rattle.table.specs.Places.{HEADS, LABEL, Large, NEXT, SAVED, allOf, chainPart, frontOf, headCount}
 
 -- What is no tag of the job is its own label.
 abbrev pub Own : ℕ → (ℕ → ℕ) → Type 0
@@ -17,46 +19,46 @@ abbrev pub keyIn : List ℕ → ℕ → ℕ
 keyIn w k = labelOf w (leftOf w k) * 65536 + labelOf w (rightOf w k)
 
 pub record Readable (w : List ℕ) (k : ℕ) : Type 0 where
-  pub long : 32768 ≤ length w
-  pub most : k ≤ 4000
-  pub left : leftOf w k < 1000
-  pub right : rightOf w k < 1000
+  pub long : Large w
+  pub most : k ≤ mostRecords
+  pub left : leftOf w k < mostTags
+  pub right : rightOf w k < mostTags
 
 -- How many places and buckets the chains have; and the links, of the first n places and of all, and the heads.
 abbrev pub reach : Bool → ℕ
-reach few = cond few 60 4000
+reach few = cond few 60 mostRecords
 
 abbrev pub width : Bool → ℕ
-width few = cond few 61 4093
+width few = cond few 61 headCount
 
 abbrev pub nextTo : ℕ → List ℕ → ℕ → ℕ
-nextTo n w = seen 22003 n (λ x. 0) w
+nextTo n w = seen (frontOf NEXT n) w
 
 abbrev pub nextIn : Bool → List ℕ → ℕ → ℕ
 nextIn few w = nextTo (reach few) w
 
 abbrev pub headIn : Bool → List ℕ → ℕ → ℕ
-headIn few w = seen 26003 (width few) (λ x. 0) w
+headIn few w = seen (frontOf HEADS (width few)) w
 
 -- Parts that were written: the label hi became lo; each tag is its own label; the labels are saved, or those that are come back; no chains.
 pub record Relabelled (w w′ : List ℕ) (lo hi : ℕ) : Type 0 where
-  pub frame : Within 21003 22003 w w′
+  pub frame : Within (allOf LABEL) w w′
   pub labels : labelOf w′ ≡ (λ x. into lo hi (labelOf w x))
 
 pub record Fresh (w w′ : List ℕ) : Type 0 where
-  pub frame : Within 21003 22003 w w′
+  pub frame : Within (allOf LABEL) w w′
   pub labels : (x : ℕ) → labelOf w′ x ≡ x
 
 pub record Preserved (w w′ : List ℕ) : Type 0 where
-  pub frame : Within 31096 32096 w w′
+  pub frame : Within (allOf SAVED) w w′
   pub saved : savedOf w′ ≡ labelOf w
 
 pub record Restored (w w′ : List ℕ) : Type 0 where
-  pub frame : Within 21003 22003 w w′
+  pub frame : Within (allOf LABEL) w w′
   pub labels : labelOf w′ ≡ savedOf w
 
 pub record Cleared (few : Bool) (w w′ : List ℕ) : Type 0 where
-  pub frame : Within 22003 30096 w w′
+  pub frame : Within chainPart w w′
   pub heads : (b : ℕ) → headIn few w′ b ≡ 0
   pub nexts : (r : ℕ) → nextIn few w′ r ≡ 0
 

@@ -7,7 +7,9 @@ ghost use lib.Dec.{eqb};
 ghost use lib.ListN.{length, set};
 ghost use mathlib.Core.Bool.{true, false};
 ghost use Rattle.meaning.specs.Labels.{into};
+ghost use Rattle.meaning.specs.Limits.{mostRecords, mostTags, namedNumbers};
 ghost use Rattle.table.specs.Map.{labelOf, headOf};
+ghost use Rattle.table.specs.Places.{HEADS, Large, NEXT, headCount};
 ghost use Rattle.table_labels.specs.Parts.{Own, Fills, CountsUp, Raised, Lowered, Relabelled, Fresh, Preserved, Restored, Cleared, keyIn, Readable};
 use meaning::RecordNo;
 use meaning::Tag;
@@ -77,7 +79,7 @@ pub fn relabel(part: &mut [u16], hi: u16, lo: u16)
 
 // The numbers before the last `gap` are written `gap` places behind as well.
 fn raise(part: &mut [u16], gap: usize)
-    requires { ⌜ (gap ≤ length (now part)) × (length (now part) ≤ 2 * gap) × (gap ≤ 32768) ⌝ }
+    requires { ⌜ (gap ≤ length (now part)) × (length (now part) ≤ 2 * gap) × (gap ≤ namedNumbers) ⌝ }
     ensures { λ _. ⌜ Raised (now (part .entry)) (now (part .exit)) gap ⌝ }
 {
     let mut i = 0;
@@ -90,7 +92,7 @@ fn raise(part: &mut [u16], gap: usize)
 
 // The numbers `gap` places behind come to the front.
 fn lower(part: &mut [u16], gap: usize)
-    requires { ⌜ (gap ≤ length (now part)) × (length (now part) ≤ 2 * gap) × (gap ≤ 32768) ⌝ }
+    requires { ⌜ (gap ≤ length (now part)) × (length (now part) ≤ 2 * gap) × (gap ≤ namedNumbers) ⌝ }
     ensures { λ _. ⌜ Lowered (now (part .entry)) (now (part .exit)) gap ⌝ }
 {
     let mut i = 0;
@@ -103,7 +105,7 @@ fn lower(part: &mut [u16], gap: usize)
 
 // The label hi becomes lo for every tag. Only the job's tags, those below `size`, can have another's label.
 pub fn merge(work: &mut [u16], size: usize, lo: Tag, hi: Tag)
-    requires { ⌜ (32768 ≤ length (now work)) × (size ≤ 1000) × (hi .0 < size) × Own size (labelOf (now work)) ⌝ }
+    requires { ⌜ Large (now work) × (size ≤ mostTags) × (hi .0 < size) × Own size (labelOf (now work)) ⌝ }
     ensures { λ _. ⌜ Relabelled (now (work .entry)) (now (work .exit)) (lo .0) (hi .0) ⌝ }
 {
     relabel(&mut work[LABEL..LABEL + size], hi.0, lo.0);
@@ -111,7 +113,7 @@ pub fn merge(work: &mut [u16], size: usize, lo: Tag, hi: Tag)
 
 // Each tag is its own label.
 pub fn fresh(work: &mut [u16])
-    requires { ⌜ 32768 ≤ length (now work) ⌝ }
+    requires { ⌜ Large (now work) ⌝ }
     ensures { λ _. ⌜ Fresh (now (work .entry)) (now (work .exit)) ⌝ }
 {
     count_up(&mut work[LABEL..NEXT]);
@@ -119,7 +121,7 @@ pub fn fresh(work: &mut [u16])
 
 // The labels are saved.
 pub fn save(work: &mut [u16])
-    requires { ⌜ 32768 ≤ length (now work) ⌝ }
+    requires { ⌜ Large (now work) ⌝ }
     ensures { λ _. ⌜ Preserved (now (work .entry)) (now (work .exit)) ⌝ }
 {
     raise(&mut work[LABEL..SPARE], GAP);
@@ -127,7 +129,7 @@ pub fn save(work: &mut [u16])
 
 // The labels are those that were saved.
 pub fn restore(work: &mut [u16])
-    requires { ⌜ 32768 ≤ length (now work) ⌝ }
+    requires { ⌜ Large (now work) ⌝ }
     ensures { λ _. ⌜ Restored (now (work .entry)) (now (work .exit)) ⌝ }
 {
     lower(&mut work[LABEL..SPARE], GAP);
@@ -135,14 +137,14 @@ pub fn restore(work: &mut [u16])
 
 // No place stands in a chain.
 fn clear_all(work: &mut [u16])
-    requires { ⌜ 32768 ≤ length (now work) ⌝ }
+    requires { ⌜ Large (now work) ⌝ }
     ensures { λ _. ⌜ Cleared false (now (work .entry)) (now (work .exit)) ⌝ }
 {
     fill(&mut work[NEXT..MARKS], 0);
 }
 
 fn clear_few(work: &mut [u16])
-    requires { ⌜ 32768 ≤ length (now work) ⌝ }
+    requires { ⌜ Large (now work) ⌝ }
     ensures { λ _. ⌜ Cleared true (now (work .entry)) (now (work .exit)) ⌝ }
 {
     fill(&mut work[NEXT..FEW_NEXT], 0);
@@ -150,7 +152,7 @@ fn clear_few(work: &mut [u16])
 }
 
 pub fn clear(work: &mut [u16], few: bool)
-    requires { ⌜ 32768 ≤ length (now work) ⌝ }
+    requires { ⌜ Large (now work) ⌝ }
     ensures { λ _. ⌜ Cleared few (now (work .entry)) (now (work .exit)) ⌝ }
 {
     if few {
@@ -174,8 +176,8 @@ pub fn key(work: &[u16], r: RecordNo) -> usize
 
 // Place i goes to the head of a bucket's chain.
 pub fn insert(work: &mut [u16], b: usize, i: usize)
-    requires { ⌜ (32768 ≤ length (now work)) × (b < 4093) × (i < 4000) × (headOf (now work) b ≤ 4000) ⌝ }
-    ensures { λ _. ⌜ now (work .exit) ≡ set (set (now (work .entry)) (22003 + i) (headOf (now (work .entry)) b)) (26003 + b) (i + 1) ⌝ }
+    requires { ⌜ Large (now work) × (b < headCount) × (i < mostRecords) × (headOf (now work) b ≤ mostRecords) ⌝ }
+    ensures { λ _. ⌜ now (work .exit) ≡ set (set (now (work .entry)) (NEXT .at + i) (headOf (now (work .entry)) b)) (HEADS .at + b) (i + 1) ⌝ }
 {
     let old = table::head(work, b);
     table::put_next(work, i, old);
@@ -184,7 +186,7 @@ pub fn insert(work: &mut [u16], b: usize, i: usize)
 
 // Whether two tags have one label.
 pub fn level(work: &[u16], s: Tag, t: Tag) -> bool
-    requires { ⌜ (32768 ≤ length (now work)) × (s .0 < 1000) × (t .0 < 1000) ⌝ }
+    requires { ⌜ Large (now work) × (s .0 < mostTags) × (t .0 < mostTags) ⌝ }
     ensures { λ r. ⌜ r ≡ eqb (labelOf (now (work .entry)) (s .0)) (labelOf (now (work .entry)) (t .0)) ⌝ }
 {
     let a = table::label(work, s);

@@ -10,6 +10,7 @@ use mathlib.Core.List.{List, [], _∷_}
 use lib.Dec.{eqb}
 use lib.ListN.{length, getD, take, drop, length-append, length-take, length-drop, List·getD-eq-default}
 use lib.Seq.{getD-drop, getD-take}
+use Rattle.meaning.specs.Limits.{mostTags}
 use Rattle.job_field.specs.Items.{Head, Question, ask, explain, tagsOfQuestion, Item, noted, posed, accepted, questionsOf}
 use Rattle.job_field.specs.Reading.{byteAt, numberAt, behindAt, reading}
 use Rattle.job_field.specs.Standing.{Below, Stands, ends, next}
@@ -113,12 +114,12 @@ module _ (report : List ℕ) (b : Bytes report) where
       go false = omega (arith, pair-size 78 s t h k)
 
 -- The line of a question: three bytes for each byte of its answer's body, and 26 more.
-question-size : (report : List ℕ) → Bytes report → (N : ℕ) (q : Question) → N ≤ 1000 → Below N (tagsOfQuestion q) → length (questionLine q report) ≤ 26 + 3 * length (bodyOf report)
+question-size : (report : List ℕ) → Bytes report → (N : ℕ) (q : Question) → N ≤ mostTags → Below N (tagsOfQuestion q) → length (questionLine q report) ≤ 26 + 3 * length (bodyOf report)
 question-size report b N (ask x y) small t = omega (arith, ask-size x y (numberAt report 3) (numberAt report 5) (omega (arith, t .0)) (omega (arith, t .1 .0)) (number-small report b 3) (number-small report b 5))
 question-size report b N (explain x y) small t = omega (arith, explain-size report b x y (byteAt report 0) (omega (arith, t .0)) (omega (arith, t .1 .0)))
 
 -- The lines of the items that stand in a job: three bytes for each byte of the report, and 26 for each question.
-lines-size : (job : List ℕ) (N at : ℕ) (items : List Item) → N ≤ 1000 → Stands job N at items → (report : List ℕ) → Bytes report
+lines-size : (job : List ℕ) (N at : ℕ) (items : List Item) → N ≤ mostTags → Stands job N at items → (report : List ℕ) → Bytes report
     → length (linesOf items report) ≤ 3 * length report + 26 * questionsOf items + 14
 unfolding linesOf totalsLine
 lines-size job N at items small (ends e l) report b = omega (arith, pair-size 84 (numberAt report 3) (numberAt report 5) (number-small report b 3) (number-small report b 5))

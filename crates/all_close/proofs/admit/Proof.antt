@@ -5,13 +5,14 @@ use native.Mathlib.Omega.{arith}
 use native.Mathlib.Numerals.{add-one}
 use denote.Ref.{now}
 use Prim.Native.Nat.{_+_, _<_}
+use Rattle.meaning.specs.Limits.{mostRecords}
 use Rattle.all_index.specs.State.{eqnAt}
 use Rattle.all_close.specs.State.{front, Coming}
 use Rattle.all_close.proofs.admit.Statement.{statement}
 use Rattle.all_close.proofs.admit.Tie as tie
 use Rattle.all_close.proofs.Entering.{open-from, next-low, admitted}
 
-low : (s : tie.Start) → s .args .i < 4000
+low : (s : tie.Start) → s .args .i < mostRecords
 low s = next-low (s .pre .0) (s .pre .1)
 
 add-settle : tie.Need-add-settle

@@ -9,13 +9,14 @@ use Rattle.meaning.specs.Totals.{Count, none, Idle}
 use Rattle.meaning.proofs.Count.{count-most}
 use Rattle.table.specs.Map.{recordsIn, Within}
 use Rattle.table.proofs.Frame.{within-refl, within-trans}
+use Rattle.table.specs.Places.{behindColumns}
 use Rattle.all_close.specs.State.{Between}
 use Rattle.all_close.proofs.close.Statement.{statement}
 use Rattle.all_close.proofs.close.Tie as tie
 use Rattle.all_close.proofs.Moments.{between-start, idle-turn, close-done}
 
 abbrev Inv-loop : tie.InvT-loop
-Inv-loop work₀ size len joins₀ idle₀ i₀ work joins idle i = (i ≤ len) × Within 12003 32768 work₀ work × Between size len i work joins × Count (Idle size (recordsIn len work)) i idle
+Inv-loop work₀ size len joins₀ idle₀ i₀ work joins idle i = (i ≤ len) × Within behindColumns work₀ work × Between size len i work joins × Count (Idle size (recordsIn len work)) i idle
 
 abbrev μ-loop : tie.MeasureT-loop
 μ-loop work₀ size len joins₀ idle₀ i₀ work joins idle i = len - i

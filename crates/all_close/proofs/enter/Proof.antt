@@ -6,12 +6,14 @@ use Prim.Native.Nat.{suc, _<_, _≤_}
 use native.Mathlib.Omega.{arith}
 use denote.Ref.{now}
 use lib.ListN.{length}
+use Rattle.meaning.specs.Limits.{mostRecords, mostTags}
 use Rattle.table.specs.Map.{leftOf, rightOf, useOf}
+use Rattle.table.specs.Places.{Large}
 use Rattle.all_close.proofs.enter.Statement.{statement}
 use Rattle.all_close.proofs.enter.Tie as tie
 use Rattle.all_close.proofs.Entering.{counted-open, next-low, next-left, next-right, Stored, stored-as, entered}
 
-low : (s : tie.Start) → s .args .i < 4000
+low : (s : tie.Start) → s .args .i < mostRecords
 low s = next-low (s .pre .0 .between) (s .pre .0 .low)
 
 number-requires : tie.Need-number-requires
@@ -33,10 +35,10 @@ left-is r = r .before .before .left .ensures ∙ ap (leftOf (now (at-start r .ar
 right-is : (r : tie.After-right) → r .right .result .0 ≡ rightOf (now (at-start r .args .work)) (suc (at-start r .args .i))
 right-is r = r .right .ensures ∙ ap (rightOf (now (at-start r .args .work))) (r .before .before .before .before .number .ensures)
 
-left-low : (r : tie.After-right) → leftOf (now (at-start r .args .work)) (suc (at-start r .args .i)) < 1000
+left-low : (r : tie.After-right) → leftOf (now (at-start r .args .work)) (suc (at-start r .args .i)) < mostTags
 left-low r = next-left (at-start r .pre .0 .between) (at-start r .pre .0 .low)
 
-right-low : (r : tie.After-right) → rightOf (now (at-start r .args .work)) (suc (at-start r .args .i)) < 1000
+right-low : (r : tie.After-right) → rightOf (now (at-start r .args .work)) (suc (at-start r .args .i)) < mostTags
 right-low r = next-right (at-start r .pre .0 .between) (at-start r .pre .0 .low)
 
 last-use-requires : tie.Need-last-use-requires
@@ -59,7 +61,7 @@ first u =
 abbrev right-of : tie.After-put-use → tie.After-right
 right-of u = u .before .before .before .before
 
-long : (u : tie.After-put-use) → 32768 ≤ length (u .put-use .last .0)
+long : (u : tie.After-put-use) → Large (u .put-use .last .0)
 long u = omega (arith, at-start (right-of u) .pre .0 .between .standing .loaded .long, first u .frame .size)
 
 last-use-requires-2 : tie.Need-last-use-requires-2

@@ -4,6 +4,7 @@
 use mathlib.Core.Path.{_≡_, sym, ap, _∙_}
 use Prim.Native.Nat.{ℕ, suc, _/_, _%_, _<_, _≤_}
 use native.Mathlib.Omega.{arith}
+use Rattle.meaning.specs.Limits.{mostRecords}
 use Rattle.table.specs.Map.{leftOf, rightOf, labelOf}
 use Rattle.table_labels.specs.Parts.{keyIn}
 use Rattle.all_index.proofs.Views.{wide, row-readable}
@@ -12,10 +13,10 @@ use Rattle.all_close.proofs.equate.Tie as tie
 use Rattle.all_close.proofs.Entering.{counted-open, next-low, equate-chain, equate-standing, equate-key, equate-stay, equate-joining, equate-joined}
 
 -- No link.
-none : 0 ≤ 4000
+none : 0 ≤ mostRecords
 none = omega arith
 
-low : (s : tie.Start) → s .args .i < 4000
+low : (s : tie.Start) → s .args .i < mostRecords
 low s = next-low (s .pre .0 .between) (s .pre .0 .low)
 
 number-requires : tie.Need-number-requires

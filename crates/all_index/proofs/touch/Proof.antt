@@ -8,6 +8,7 @@ use mathlib.Core.Logic.{_≢_}
 use denote.Ref.{now}
 use borrow.Author.Tests.{eqb-true, eqb-false}
 use Rattle.table.specs.Map.{chainOf}
+use Rattle.table.specs.Places.{bucketCount}
 use Rattle.all_index.proofs.Views.{row-readable}
 use Rattle.all_index.proofs.Sweeping.{touched-refl}
 use Rattle.all_index.proofs.touch.Statement.{statement}
@@ -35,7 +36,7 @@ take-out-requires : tie.Need-take-out-requires
 take-out-requires c κs =
     let s = c .before .before .before .before .before .before .before .before .before .before in
     let n : chainOf (now (s .args .work)) (s .args .j) ≢ 0 = eqb-false _ 0 (sym (c .before .before .before .before .before .before .before .waits .ensures) ∙ c .before .before .before .before .before .before .if1 .left) in
-    let e = ap (λ (x : ℕ). x % 761) (rw (c .before .before .before .before .number .ensures) at (c .before .before .before .key .ensures)) in
+    let e = ap (λ (x : ℕ). x % bucketCount) (rw (c .before .before .before .before .number .ensures) at (c .before .before .before .key .ensures)) in
     (s .pre .0, s .pre .1, s .pre .2, s .pre .3, omega arith, e, c .before .above .ensures)
 
 add-result : tie.Need-add-result

@@ -7,6 +7,8 @@ use mathlib.Core.Logic.{_⊎_, ⊎-elim, inl, inr}
 use mathlib.Core.List.{List}
 use lib.ListN.{set}
 use Rattle.meaning.specs.declared.Tag.{Tag}
+use Rattle.meaning.specs.Limits.{mostTags}
+use Rattle.table.specs.Places.{AGE, PARENT}
 use Rattle.all_join.proofs.keep.Statement.{statement}
 use Rattle.all_join.proofs.keep.Tie as tie
 
@@ -35,7 +37,7 @@ start o = o .before .before .before .before .before .before .before .before .bef
 order : (o : tie.Joined1) → let s = start o in ((s .args .x .0 ≤ s .args .y .0) × (o .if1 .lo .0 ≡ s .args .x .0) × (o .if1 .hi .0 ≡ s .args .y .0)) ⊎ ((s .args .y .0 < s .args .x .0) × (o .if1 .lo .0 ≡ s .args .y .0) × (o .if1 .hi .0 ≡ s .args .x .0))
 order o = ⊎-elim (λ z. inr (omega (arith, z .0 .taken), ap (λ (x : Tag). x .0) (z .1), ap (λ (x : Tag). x .0) (z .2))) (λ z. inl (omega (arith, z .0 .left), ap (λ (x : Tag). x .0) (z .1), ap (λ (x : Tag). x .0) (z .2))) (o .if1 .came)
 
-low : (o : tie.Joined1) → (o .if1 .lo .0 < 1000) × (o .if1 .hi .0 < 1000)
+low : (o : tie.Joined1) → (o .if1 .lo .0 < mostTags) × (o .if1 .hi .0 < mostTags)
 low o = let s = start o in elim (order o) [ inl h ↦ (omega (arith, h .1, s .pre .1), omega (arith, h .2, s .pre .2)) | inr h ↦ (omega (arith, h .1, s .pre .2), omega (arith, h .2, s .pre .1)) ]
 
 note-requires : tie.Need-note-requires
@@ -67,7 +69,7 @@ returns c =
       order = order o;
       over = (omega (arith, h .higher .ensures .0, a), omega (arith, h .higher .ensures .1, b), elim (h .higher .ensures .2) [ inl q ↦ inl (q ∙ a) | inr q ↦ inr (q ∙ b) ]);
       heavy = j .joint .ensures .0;
-      stored = l .put-link .ensures ∙ ap (λ (w : List ℕ). set (set w (12003 + o .if1 .lo .0) (h .higher .result .0)) (13003 + o .if1 .lo .0) (j .joint .result)) (n .note .ensures);
+      stored = l .put-link .ensures ∙ ap (λ (w : List ℕ). set (set w (PARENT .at + o .if1 .lo .0) (h .higher .result .0)) (AGE .at + o .if1 .lo .0) (j .joint .result)) (n .note .ensures);
     }
 
 pub keep-spec : {M : Type 1} → statement M

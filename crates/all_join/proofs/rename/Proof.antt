@@ -5,6 +5,7 @@ use mathlib.Core.Path.{refl}
 use Prim.Native.Nat.{_+_, _-_}
 use native.Mathlib.Omega.{arith}
 use denote.Ref.{now}
+use Rattle.table.specs.Places.{LABEL}
 use Rattle.all_join.proofs.rename.Statement.{statement}
 use Rattle.all_join.proofs.rename.Tie as tie
 use Rattle.all_join.proofs.Tops.{renamed-part}
@@ -45,8 +46,8 @@ same-length c = search needs
 returns : tie.Need-returns
 returns c =
     let s = c .before .before .before .before .before .before .before in
-    let at = 21003 + s .args .from .0 in
-    renamed-part (now (s .args .work)) _ (c .before .before .relabel .last .0) (s .args .kept .0) (s .args .gone .0) (s .args .from .0) (s .args .top .0) at (21003 + s .args .top .0 + 1 - at) (s .pre .0) (s .pre .1) (s .pre .2) refl (omega (arith, s .pre .1)) (s .pre .3) refl (c .before .before .relabel .ensures)
+    let at = LABEL .at + s .args .from .0 in
+    renamed-part (now (s .args .work)) _ (c .before .before .relabel .last .0) (s .args .kept .0) (s .args .gone .0) (s .args .from .0) (s .args .top .0) at (LABEL .at + s .args .top .0 + 1 - at) (s .pre .0) (s .pre .1) (s .pre .2) refl (omega (arith, s .pre .1)) (s .pre .3) refl (c .before .before .relabel .ensures)
 
 pub rename-spec : {M : Type 1} → statement M
 rename-spec =

@@ -6,13 +6,15 @@ use Prim.Native.Nat.{ℕ, _≤_, _<_}
 use native.Mathlib.Omega.{arith}
 use denote.Ref.{now}
 use lib.ListN.{length}
+use Rattle.meaning.specs.Limits.{mostTags}
 use Rattle.table.specs.Map.{labelOf}
 use Rattle.table.proofs.Frame.{seen-within}
+use Rattle.table.specs.Places.{LABEL, Large}
 use Rattle.all_join.proofs.unite.Statement.{statement}
 use Rattle.all_join.proofs.unite.Tie as tie
 use Rattle.all_join.proofs.Uniting.{unite-kept, unite-gone, unite-young, unite-top, unite-between, unite-over, unite-done}
 
-long : (s : tie.Start) → 32768 ≤ length (now (s .args .work))
+long : (s : tie.Start) → Large (now (s .args .work))
 long s = s .pre .0 .standing .loaded .long
 
 parent-requires : tie.Need-parent-requires
@@ -22,7 +24,7 @@ parent-requires c κs = let s = c .before .before in (long s, unite-gone (s .pre
 abbrev at-start : tie.After-parent → tie.Start
 at-start p = p .before .before .before
 
-top-low : (p : tie.After-parent) → p .parent .result .0 < 1000
+top-low : (p : tie.After-parent) → p .parent .result .0 < mostTags
 top-low p = let s = at-start p in omega (arith, p .parent .ensures, unite-top (s .pre .0) (s .pre .1) (s .pre .2), s .pre .0 .standing .loaded .few)
 
 top-over : (p : tie.After-parent) → at-start p .args .gone .leader .0 ≤ p .parent .result .0
@@ -38,14 +40,14 @@ touch-class-requires c κs = let p = c .before in (at-start p .pre .0 .indexed, 
 abbrev parent-of : tie.After-touch-class → tie.After-parent
 parent-of a = a .before .before
 
-long₁ : (a : tie.After-touch-class) → 32768 ≤ length (a .touch-class .last .0)
+long₁ : (a : tie.After-touch-class) → Large (a .touch-class .last .0)
 long₁ a = omega (arith, long (at-start (parent-of a)), a .touch-class .ensures .0 .frame .size)
 
 rename-requires : tie.Need-rename-requires
 rename-requires c κs =
     let a = c .before .before .before in
     let p = parent-of a in
-    let same = seen-within 21003 1000 (λ x. x) (a .touch-class .ensures .0 .frame) (inl (omega arith)) in
+    let same = seen-within LABEL (a .touch-class .ensures .0 .frame) (inl (omega arith)) in
     (long₁ a, top-over p, top-low p, λ x e. between p x (sym (ap (λ (f : ℕ → ℕ). f x) same) ∙ e))
 
 abbrev touched-of : tie.After-rename → tie.After-touch-class
@@ -56,7 +58,7 @@ cast-t21 c =
     let s = at-start (parent-of (touched-of (c .before .before .before))) in
     record { fits = omega (arith, s .pre .0 .standing .reach, s .pre .0 .standing .loaded .most) }
 
-long₂ : (m : tie.After-rename) → 32768 ≤ length (m .rename .last .0)
+long₂ : (m : tie.After-rename) → Large (m .rename .last .0)
 long₂ m = omega (arith, long₁ (touched-of m), m .rename .ensures .frame .size)
 
 keep-requires : tie.Need-keep-requires

@@ -4,6 +4,7 @@ use mathlib.Core.Path.{_≡_, refl, ap, _∙_}
 use Prim.Native.Nat.{ℕ, _%_, _<_}
 use native.Mathlib.Omega.{arith}
 use denote.Ref.{now}
+use Rattle.table.specs.Places.{bucketCount}
 use Rattle.table_labels.specs.Parts.{keyIn}
 use Rattle.all_index.specs.State.{keyAt, foundIn}
 use Rattle.all_index.proofs.Views.{row-readable}
@@ -23,7 +24,7 @@ key-requires c κs =
 key-is : (a : tie.After-key) → a .key .result ≡ keyAt (now (a .before .before .before .before .args .work)) (a .before .before .before .before .args .j)
 key-is a = a .key .ensures ∙ ap (keyIn (now (a .before .before .before .before .args .work))) (a .before .number .ensures)
 
-bucket-low : (x : ℕ) → x % 761 < 761
+bucket-low : (x : ℕ) → x % bucketCount < bucketCount
 bucket-low x = omega arith
 
 bucket-requires : tie.Need-bucket-requires
@@ -41,7 +42,7 @@ at-start a = a .before .before .before .before .before .before .before .before
 found : (a : tie.After-seek) → a .seek .result ≡ foundIn (now (at-start a .args .work)) (keyAt (now (at-start a .args .work)) (at-start a .args .j))
 found a =
     let k = a .before .before .before .before in
-    meet-found (now (at-start a .args .work)) (at-start a .args .j) (k .key .result) (k .key .result % 761) _ _ (key-is k) refl (a .before .before .bucket .ensures) (a .seek .ensures)
+    meet-found (now (at-start a .args .work)) (at-start a .args .j) (k .key .result) (k .key .result % bucketCount) _ _ (key-is k) refl (a .before .before .bucket .ensures) (a .seek .ensures)
 
 above-requires : tie.Need-above-requires
 above-requires c κs =
@@ -54,7 +55,7 @@ file-requires c κs =
     let i = c .before .before .before in
     let a = i .before in
     let s = at-start a in
-    (s .pre .indexed .filing, s .pre .indexed .queue, ap (λ (x : ℕ). x % 761) (key-is (a .before .before .before .before)), rw (← found a) (i .if1 .taken), c .before .above .ensures)
+    (s .pre .indexed .filing, s .pre .indexed .queue, ap (λ (x : ℕ). x % bucketCount) (key-is (a .before .before .before .before)), rw (← found a) (i .if1 .taken), c .before .above .ensures)
 
 same-length : tie.Need-same-length
 same-length c = c .before .before .file .kept .0

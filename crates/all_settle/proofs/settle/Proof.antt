@@ -5,6 +5,7 @@ use mathlib.Core.Path.{_≡_}
 use native.Mathlib.Omega.{arith}
 use Rattle.table.specs.Map.{chainOf, Within}
 use Rattle.table.proofs.Frame.{within-refl, within-trans}
+use Rattle.table.specs.Places.{behindColumns, columnSize}
 use Rattle.all_index.specs.Waiting.{waiting}
 use Rattle.all_settle.specs.State.{Open}
 use Rattle.all_settle.proofs.settle.Statement.{statement}
@@ -12,10 +13,10 @@ use Rattle.all_settle.proofs.settle.Tie as tie
 use Rattle.all_settle.proofs.Passing.{open-first, settle-less}
 
 abbrev Inv-loop : tie.InvT-loop
-Inv-loop work₀ front joins first made₀ to₀ work made to = Within 12003 32768 work₀ work × Open front work made to × (joins ≤ made)
+Inv-loop work₀ front joins first made₀ to₀ work made to = Within behindColumns work₀ work × Open front work made to × (joins ≤ made)
 
 abbrev μ-loop : tie.MeasureT-loop
-μ-loop work₀ front joins first made₀ to₀ work made to = 4001 * (front .size - made) + waiting (front .places) (chainOf work)
+μ-loop work₀ front joins first made₀ to₀ work made to = columnSize * (front .size - made) + waiting (front .places) (chainOf work)
 
 loop-holds : tie.Need-loop-holds Inv-loop μ-loop
 loop-holds c = (within-refl _, c .before .pre, omega arith)

@@ -5,7 +5,9 @@ use Prim.Native.Nat.{ℕ, _+_, _-_, _<_, _≤_}
 use native.Mathlib.Omega.{arith}
 use denote.Ref.{now}
 use lib.ListN.{length}
+use Rattle.meaning.specs.Limits.{mostRecords}
 use Rattle.table.specs.Map.{resultOf, labelOf}
+use Rattle.table.specs.Places.{Large}
 use Rattle.all_index.specs.State.{resAt}
 use Rattle.all_index.proofs.Views.{store-frame, store-buckets, link-chains, link-waits}
 use Rattle.all_settle.proofs.unify.Statement.{statement}
@@ -15,16 +17,16 @@ use Rattle.all_settle.proofs.Differing.{unify-low, unify-app, unify-due
 use Rattle.all_settle.proofs.Meeting.{first-place, first-most, unify-stay, unify-join}
 
 -- No link.
-none : 0 ≤ 4000
+none : 0 ≤ mostRecords
 none = omega arith
 
-long : (s : tie.Start) → 32768 ≤ length (now (s .args .work))
+long : (s : tie.Start) → Large (now (s .args .work))
 long s = s .pre .state .standing .loaded .long
 
-low : (s : tie.Start) → s .args .j < 4000
+low : (s : tie.Start) → s .args .j < mostRecords
 low s = first-most (s .pre .state)
 
-low-found : (s : tie.Start) → s .args .p - 1 < 4000
+low-found : (s : tie.Start) → s .args .p - 1 < mostRecords
 low-found s = omega (arith, unify-low (s .pre), s .pre .state .standing .reach, s .pre .state .standing .loaded .most)
 
 sub-number : tie.Need-sub-number

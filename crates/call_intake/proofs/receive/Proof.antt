@@ -41,6 +41,7 @@ use denote.Triple.Table.{entered, cited}
 use denote.Triple.Walked.{says, Stays, stay-none-slice, gave-slice, walkOf, goes-none-slice, goes-gave-slice, Walks, ends-at, walked, walk-meets}
 use denote.Exit.{yes}
 use denote.Signature.{plain}
+use Rattle.meaning.specs.Limits.{namedPlaces}
 use Rattle.records.specs.declared.Record.{Record}
 use Rattle.records.proofs.Rows.{then-of, R, gives-up}
 use Rattle.records.proofs.Lent.{lend-on}
@@ -246,7 +247,7 @@ module _ {M : Type 1} (𝓤 : URA M) (H : Heap 𝓤) (A : Atoms 𝓤) (W : Given
         rewrite ! 30 (λ (n : ℕ). ‵ (fat fullShare τc l₂ 0 (sliceVal (bc, oc) n))) (sym lu) refl $ rewrite ! 28 (λ (n : ℕ). ‵ (fat fullShare τw l₃ 0 (sliceVal (bw, ow) n))) (sym lv) refl $
         assigns ! (addr ! (from ! (fld ! refl (hop ! (look-in ! 30 (sub ! 0 refl (whole !))) (stop !))))) (from ! (stop !)) (init ! 8 refl (tt, tt)) $
         assigns ! (agg ! (and-then ! (load ! (from ! (stop !)) (look ! 8 refl)) (and-then ! (load ! (from ! (fld ! refl (stop !))) (look-in ! 30 (sub ! 1 refl (whole !)))) (no-more !)))) (from ! (stop !)) (init ! 6 refl (tt, (tt, (record { fits = subst (Room R) (sym lu) roomc .0 }, tt)))) $
-        move ! (1 ∷ 0 ∷ []) $ use2 W (raw (Blank 𝓤 H A mem run .pre (to-blank 𝓤 H A W mem run κj κc κw qj qc qw xj bc oc γc ys bw ow γw ws roomc roomw u))) (goes-blank 𝓤 H A W mem run κj κc κw qj qc qw xj bc oc γc ys bw ow γw ws roomc roomw u (subst (λ (n : ℕ). 4000 ≤ n) (sym lu) (handable (xj .now) ys ws s seen lent .places))) $
+        move ! (1 ∷ 0 ∷ []) $ use2 W (raw (Blank 𝓤 H A mem run .pre (to-blank 𝓤 H A W mem run κj κc κw qj qc qw xj bc oc γc ys bw ow γw ws roomc roomw u))) (goes-blank 𝓤 H A W mem run κj κc κw qj qc qw xj bc oc γc ys bw ow γw ws roomc roomw u (subst (λ (n : ℕ). namedPlaces ≤ n) (sym lu) (handable (xj .now) ys ws s seen lent .places))) $
         -- [what is asked; work; its token; job; its token; _14 (5); …]
         calls-at-last ! fm (Blank 𝓤 H A mem run) known-blank (to-blank 𝓤 H A W mem run κj κc κw qj qc qw xj bc oc γc ys bw ow γw ws roomc roomw u) (and-then ! (load ! (from ! (stop !)) (look ! 5 refl)) (no-more !)) (λ w′.
         gets-blank 𝓤 H A W mem run κj κc κw qj qc qw xj bc oc γc ys bw ow γw ws roomc roomw u w′ tt (λ z′ zc b lc done-is′.

@@ -43,6 +43,7 @@ use denote.Triple.Table.{entered, cited}
 use denote.Triple.Walked.{says, Stays, stay-none, stay-none-slice, gave-slice, walkOf, goes-none, goes-none-slice, goes-gave-slice, Walks, ends-at, walked, walk-meets}
 use denote.Exit.{yes}
 use denote.Signature.{plain}
+use Rattle.meaning.specs.Limits.{namedPlaces}
 use Rattle.records.specs.declared.Record.{Record}
 use Rattle.records.proofs.Rows.{big-lit, R, val, vals, tells, typed}
 use Rattle.records.proofs.Record as T
@@ -73,13 +74,13 @@ abbrev τ-rec : Ty
 τ-rec = pointee (R .written)
 
 abbrev τ-arr : Ty
-τ-arr = tyArray T′.mir 4000
+τ-arr = tyArray T′.mir namedPlaces
 
 abbrev τ-lent : Ty
-τ-lent = relent (pointee (Array R 4000 .written))
+τ-lent = relent (pointee (Array R namedPlaces .written))
 
-many : (each : Record) → length (filled each) ≡ 4000
-many each = length-replicate 4000 each
+many : (each : Record) → length (filled each) ≡ namedPlaces
+many each = length-replicate namedPlaces each
 
 room-of : (each : Record) → Room R (length (filled each))
 room-of each = subst (Room R) (sym (many each)) (lit< tt, lit< tt)
@@ -142,7 +143,7 @@ module _ {M : Type 1} (𝓤 : URA M) (H : Heap 𝓤) (A : Atoms 𝓤) (W : Given
     xc = record { ptr = (l₄, 0); name = γ; now = ys }
 
     abbrev vc : Val
-    vc = sliceVal (l₄, 0) 4000
+    vc = sliceVal (l₄, 0) namedPlaces
 
     abbrev Oc : Item 𝓤
     Oc = ‵ (MutSlice (named 1) (ν ∷ []) R .own xc (vc ∷ []))
@@ -172,12 +173,12 @@ module _ {M : Type 1} (𝓤 : URA M) (H : Heap 𝓤) (A : Atoms 𝓤) (W : Given
     -- the locals from the last to the first, without the array's room: what the call reads, and room
     abbrev Locs : List (Item 𝓤)
     Locs = ‵ (fat fullShare (sliceTy (relent (tyInt w16))) l₈ 0 vw) ∷ ‵ (fdies (sliceTy (relent (tyInt w16))) l₈) ∷ ‵ (froom (relent (tyInt w16)) l₇ 0) ∷ ‵ (fdies (relent (tyInt w16)) l₇)
-        ∷ ‵ (fat fullShare (sliceTy (relent τ-rec)) l₆ 0 (sliceVal (l₄, 0) 4000)) ∷ ‵ (fdies (sliceTy (relent τ-rec)) l₆) ∷ ‵ (froom τ-lent l₅ 0) ∷ ‵ (fdies τ-lent l₅)
+        ∷ ‵ (fat fullShare (sliceTy (relent τ-rec)) l₆ 0 (sliceVal (l₄, 0) namedPlaces)) ∷ ‵ (fdies (sliceTy (relent τ-rec)) l₆) ∷ ‵ (froom τ-lent l₅ 0) ∷ ‵ (fdies τ-lent l₅)
         ∷ ‵ (fdies τ-arr l₄) ∷ ‵ (froom T′.mir l₃ 0) ∷ ‵ (fdies T′.mir l₃)
         ∷ ‵ (fat fullShare τw l₂ 0 vw) ∷ ‵ (fdies τw l₂) ∷ ‵ (fat fullShare τj l₁ 0 vj) ∷ ‵ (fdies τj l₁) ∷ ‵ (froom S′.mir l₀ 0) ∷ ‵ (fdies S′.mir l₀) ∷ Toks ∷ Owns ∷ []
 
     -- the call, and what follows it
-    calls-it : (ν : ℕ) (γ : GName) → Sq W (Oc l₄ ν γ ∷ ‵ (flent (ν ∷ []) (Held R 4000 l₄ 0 γ)) ∷ ‵ (flft (ν ∷ []) fullShare) ∷ Locs) (runs C Λ En m.t-6 (atRet En Ends))
+    calls-it : (ν : ℕ) (γ : GName) → Sq W (Oc l₄ ν γ ∷ ‵ (flent (ν ∷ []) (Held R namedPlaces l₄ 0 γ)) ∷ ‵ (flft (ν ∷ []) fullShare) ∷ Locs) (runs C Λ En m.t-6 (atRet En Ends))
     calls-it ν γ =
         move ! (21 ∷ []) $ fsplit ! $ use1 W (Oj ⊛ Oj) (shr-slice-copy 𝓤 H A W (named 0) κj u8 .twice xj (vj ∷ [])) $ split ! $ move ! (2 ∷ []) $ fsplit ! $ move ! (1 ∷ []) $ fsplit ! $ drop ! $ move ! (1 ∷ []) $
         move ! (24 ∷ []) $ split ! $
@@ -194,8 +195,8 @@ module _ {M : Type 1} (𝓤 : URA M) (H : Heap 𝓤) (A : Atoms 𝓤) (W : Given
         move ! (3 ∷ []) $ split ! $ move ! (1 ∷ []) $ peeks ! SR (Is SR) (shows 𝓤 H A SR) s (w ∷ []) (λ is.
         land ! (from ! (stop !)) (init ! 22 refl (LL.lawful S.the-type S′.the-laws 𝓤 H A W .typed s (w ∷ []) is .0)) $ drop ! $ split ! $ move ! (1 ∷ []) $ split ! $
         -- [ν's token; work's ⊛ true; job's; work's last list; true; the array's; job; what waits; _8 (8); …]: the lifetime is ended, and the array comes back
-        lft-end ! tt $ move ! (0 ∷ 7 ∷ 5 ∷ []) $ use3 W (later (‵ (Arr (mem R) 4000 .lies (zs .1 .0) l₄ 0))) (slice-back 𝓤 H A W R (ν ∷ []) γ (zs .1 .0) 4000 l₄ 0) $ await ! tt $
-        use1 W (‵ (froom τ-arr l₄ 0)) (table-out 𝓤 H A W R 4000 l₄ (zs .1 .0)) $
+        lft-end ! tt $ move ! (0 ∷ 7 ∷ 5 ∷ []) $ use3 W (later (‵ (Arr (mem R) namedPlaces .lies (zs .1 .0) l₄ 0))) (slice-back 𝓤 H A W R (ν ∷ []) γ (zs .1 .0) namedPlaces l₄ 0) $ await ! tt $
+        use1 W (‵ (froom τ-arr l₄ 0)) (table-out 𝓤 H A W R namedPlaces l₄ (zs .1 .0)) $
         -- [room for the array; work's token ⊛ true; job's; work's last list; true; job; _8 (6); …]
         returns ! (look ! 21 refl) $ forget ! 6 refl $ forget ! 10 refl $ forget ! 17 refl $ forget ! 19 refl $ forget ! 21 refl $
         move ! (21 ∷ 22 ∷ []) $ free1 ! $ move ! (19 ∷ 20 ∷ []) $ free1 ! $ move ! (17 ∷ 18 ∷ []) $ free1 ! $ move ! (15 ∷ 16 ∷ []) $ free1 ! $ move ! (0 ∷ 14 ∷ []) $ free1 ! $ move ! (11 ∷ 12 ∷ []) $ free1 ! $ move ! (9 ∷ 10 ∷ []) $ free1 ! $ move ! (7 ∷ 8 ∷ []) $ free1 ! $ move ! (5 ∷ 6 ∷ []) $ free1 ! $ free0 ! $
@@ -209,10 +210,10 @@ module _ {M : Type 1} (𝓤 : URA M) (H : Heap 𝓤) (A : Atoms 𝓤) (W : Given
         alloc1 ! (λ l₀. alloc1 ! (λ l₁. alloc1 ! (λ l₂. alloc1 ! (λ l₃. alloc1 ! (λ l₄. alloc1 ! (λ l₅. alloc1 ! (λ l₆. alloc1 ! (λ l₇. alloc1 ! (λ l₈. alloc0 ! $ params1 ! $
         pass1 ! (init ! 14 refl (tt, (tt, (record { fits = roomj .0 }, tt)))) $ pass1 ! (init ! 12 refl (tt, (tt, (record { fits = roomw .0 }, tt)))) $ pass1 ! (init ! 10 refl (typed 𝓤 H A W each is-each)) $ pass0 ! $
         -- the array
-        owned ! R (Is R) (LL.makes T.the-type T′.the-plain 𝓤 H A) each _ is-each $ use1 W (‵ (Array R 4000 .own ys (arrayVal (replicate 4000 (val each)) ∷ []))) (array-repeat 𝓤 H A W R (LL.copy T.the-type T′.the-copy 𝓤 H A W) 4000 each (val each)) $
-        peeks ! (Array R 4000) (Is (Array R 4000)) (shows 𝓤 H A (Array R 4000)) ys (arrayVal (replicate 4000 (val each)) ∷ []) (λ is.
-        assigns ! (rep ! 4000 (load ! (from ! (stop !)) (look ! 11 refl))) (from ! (stop !)) (init ! 9 refl (array-lawful 𝓤 H A W R (LL.lawful T.the-type T′.the-laws 𝓤 H A W) 4000 .typed ys _ is .0)) $
-        move ! (9 ∷ 0 ∷ []) $ use2 W (‵ (cells (mem R) ys l₄ 0)) (table-in 𝓤 H A W R 4000 l₄ tt each (val each)) $
+        owned ! R (Is R) (LL.makes T.the-type T′.the-plain 𝓤 H A) each _ is-each $ use1 W (‵ (Array R namedPlaces .own ys (arrayVal (replicate namedPlaces (val each)) ∷ []))) (array-repeat 𝓤 H A W R (LL.copy T.the-type T′.the-copy 𝓤 H A W) namedPlaces each (val each)) $
+        peeks ! (Array R namedPlaces) (Is (Array R namedPlaces)) (shows 𝓤 H A (Array R namedPlaces)) ys (arrayVal (replicate namedPlaces (val each)) ∷ []) (λ is.
+        assigns ! (rep ! namedPlaces (load ! (from ! (stop !)) (look ! 11 refl))) (from ! (stop !)) (init ! 9 refl (array-lawful 𝓤 H A W R (LL.lawful T.the-type T′.the-laws 𝓤 H A W) namedPlaces .typed ys _ is .0)) $
+        move ! (9 ∷ 0 ∷ []) $ use2 W (‵ (cells (mem R) ys l₄ 0)) (table-in 𝓤 H A W R namedPlaces l₄ tt each (val each)) $
         -- [the elements; _8; …; dies _4 (9); _3 (10); …; _2 (12); …; _1 (14); …; _0 (16); …]
         assigns ! (addr ! (from ! (stop !))) (from ! (stop !)) (init ! 7 refl (tt, tt)) $
         assigns ! (agg ! (and-then ! (load ! (from ! (stop !)) (look ! 7 refl)) (and-then ! (big-lit ! (record { fits = lit< tt })) (no-more !)))) (from ! (stop !)) (init ! 5 refl (tt, (tt, (record { fits = lit< tt }, tt)))) $

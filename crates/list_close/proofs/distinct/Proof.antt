@@ -5,13 +5,14 @@ use Prim.Native.Nat.{_-_, _≤_}
 use native.Mathlib.Omega.{arith}
 use Rattle.table.specs.Map.{Within}
 use Rattle.table.proofs.Frame.{within-refl, within-trans}
+use Rattle.table.specs.Places.{chainPart}
 use Rattle.list_close.specs.State.{Singled}
 use Rattle.list_close.proofs.Singles.{alone-room, single-none, single-listed, single-done, single-failed}
 use Rattle.list_close.proofs.distinct.Statement.{statement}
 use Rattle.list_close.proofs.distinct.Tie as tie
 
 abbrev Inv-loop : tie.InvT-loop
-Inv-loop work₀ size len n task i₀ work i = (i ≤ n) × Within 22003 30096 work₀ work × Singled task work i
+Inv-loop work₀ size len n task i₀ work i = (i ≤ n) × Within chainPart work₀ work × Singled task work i
 
 abbrev μ-loop : tie.MeasureT-loop
 μ-loop work₀ size len n task i₀ work i = n - i

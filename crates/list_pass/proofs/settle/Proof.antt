@@ -6,12 +6,13 @@ use Prim.Native.Nat.{_-_, _≤_}
 use native.Mathlib.Omega.{arith}
 use Rattle.table.specs.Map.{Within}
 use Rattle.table.proofs.Frame.{within-refl, within-trans}
+use Rattle.table.specs.Places.{closurePart}
 use Rattle.list_pass.specs.Uniting.{State}
 use Rattle.list_pass.proofs.settle.Statement.{statement}
 use Rattle.list_pass.proofs.settle.Tie as tie
 
 abbrev Inv-loop : tie.InvT-loop
-Inv-loop work₀ task joins made₀ work made = State task work made × Within 21003 30096 work₀ work × (joins ≤ made)
+Inv-loop work₀ task joins made₀ work made = State task work made × Within closurePart work₀ work × (joins ≤ made)
 
 abbrev μ-loop : tie.MeasureT-loop
 μ-loop work₀ task joins made₀ work made = task .size - made

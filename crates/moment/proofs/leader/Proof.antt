@@ -7,16 +7,17 @@ use mathlib.Core.List.{List}
 use native.Mathlib.Omega.{arith}
 use Rattle.table.specs.Map.{parentOf, ageOf}
 use Rattle.meaning.proofs.Forest.{root-stop, root-up}
+use Rattle.meaning.specs.Limits.{mostTags}
 use Rattle.moment.specs.Meeting.{leaderAt, Forested}
 use Rattle.moment.proofs.leader.Statement.{statement}
 use Rattle.moment.proofs.leader.Tie as tie
 
 -- The links of the table, as the climb uses them.
-step : (w : List ℕ) (a x : ℕ) → Forested w → a ≤ 1000 → x < 1000 → ageOf w x < a → (parentOf w x < x) × (leaderAt w a (parentOf w x) ≡ leaderAt w a x)
-step w a x f l h k = (f .links .down x (omega arith), sym (root-up (parentOf w) (ageOf w) 1000 1000 (f .links) a l (omega arith) x k))
+step : (w : List ℕ) (a x : ℕ) → Forested w → a ≤ mostTags → x < mostTags → ageOf w x < a → (parentOf w x < x) × (leaderAt w a (parentOf w x) ≡ leaderAt w a x)
+step w a x f l h k = (f .links .down x (omega arith), sym (root-up (parentOf w) (ageOf w) mostTags mostTags (f .links) a l (omega arith) x k))
 
 abbrev Inv-loop : tie.InvT-loop
-Inv-loop work age y₀ y = (y .0 < 1000) × (leaderAt work age (y .0) ≡ leaderAt work age (y₀ .0))
+Inv-loop work age y₀ y = (y .0 < mostTags) × (leaderAt work age (y .0) ≡ leaderAt work age (y₀ .0))
 
 abbrev μ-loop : tie.MeasureT-loop
 μ-loop work age y₀ y = y .0
@@ -50,7 +51,7 @@ returns c =
     let start = c .before .before .before .before in
     let x = c .before .before .loop .y .0 in
     let stop : start .args .age ≤ ageOf (start .args .work .now) x = omega (arith, c .before .age .ensures) in
-    sym (root-stop (parentOf (start .args .work .now)) (ageOf (start .args .work .now)) 1000 1000 (start .pre .0 .links) (start .args .age) (start .pre .1 .0) (omega arith) x stop) ∙ c .before .before .loop .inv .1
+    sym (root-stop (parentOf (start .args .work .now)) (ageOf (start .args .work .now)) mostTags mostTags (start .pre .0 .links) (start .args .age) (start .pre .1 .0) (omega arith) x stop) ∙ c .before .before .loop .inv .1
 
 pub leader-spec : {M : Type 1} → statement M
 leader-spec =

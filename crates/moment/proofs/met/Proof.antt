@@ -6,6 +6,7 @@ use mathlib.Core.Logic.{_≢_}
 use mathlib.Core.List.{List}
 use Prim.Native.Nat.{ℕ, _+_, _≤_, _<_}
 use native.Mathlib.Omega.{arith}
+use Rattle.meaning.specs.Limits.{mostTags}
 use Rattle.table.specs.Map.{parentOf, ageOf}
 use Rattle.moment.specs.Meeting.{Forested, Met}
 use Rattle.moment.proofs.Climb.{Climbing, climb-start, climb-near, climb-far, climb-never, climb-end}
@@ -14,26 +15,26 @@ use Rattle.moment.proofs.met.Tie as tie
 
 -- Where two climbers of the table stand.
 record Standing (w : List ℕ) (s t x y newest : ℕ) : Type 0 where
-  x-tag : x < 1000
-  y-tag : y < 1000
+  x-tag : x < mostTags
+  y-tag : y < mostTags
   climbing : Climbing (parentOf w) (ageOf w) s t x y newest
 
 -- One link up on either side, with the numbers as the code holds them.
-near : (w : List ℕ) → Forested w → (s t x y newest a b z : ℕ) → Standing w s t x y newest → x ≢ y → a ≡ ageOf w x → b ≡ ageOf w y → z ≡ parentOf w x → a ≤ b → a < 1000
+near : (w : List ℕ) → Forested w → (s t x y newest a b z : ℕ) → Standing w s t x y newest → x ≢ y → a ≡ ageOf w x → b ≡ ageOf w y → z ≡ parentOf w x → a ≤ b → a < mostTags
     → (z < x) × Standing w s t z y a
 near w f s t x y newest a b z h d ea eb ez l k =
-    let g : ageOf w x < 1000 = omega arith in
+    let g : ageOf w x < mostTags = omega arith in
     let down = f .links .down x g in
     rw (ez, ea) (down, record { x-tag = omega (arith, down, h .x-tag); y-tag = h .y-tag; climbing = climb-near (parentOf w) (ageOf w) (f .links) (h .climbing) d (omega arith) g })
 
-far : (w : List ℕ) → Forested w → (s t x y newest a b z : ℕ) → Standing w s t x y newest → x ≢ y → a ≡ ageOf w x → b ≡ ageOf w y → z ≡ parentOf w y → b < a → b < 1000
+far : (w : List ℕ) → Forested w → (s t x y newest a b z : ℕ) → Standing w s t x y newest → x ≢ y → a ≡ ageOf w x → b ≡ ageOf w y → z ≡ parentOf w y → b < a → b < mostTags
     → (z < y) × Standing w s t x z b
 far w f s t x y newest a b z h d ea eb ez l k =
-    let g : ageOf w y < 1000 = omega arith in
+    let g : ageOf w y < mostTags = omega arith in
     let down = f .links .down y g in
     rw (ez, eb) (down, record { x-tag = h .x-tag; y-tag = omega (arith, down, h .y-tag); climbing = climb-far (parentOf w) (ageOf w) (f .links) (h .climbing) d (omega arith) g })
 
-never : (w : List ℕ) → Forested w → (s t x y newest : ℕ) → Standing w s t x y newest → x ≢ y → 1000 ≤ ageOf w x → 1000 ≤ ageOf w y → Met w s t 1000
+never : (w : List ℕ) → Forested w → (s t x y newest : ℕ) → Standing w s t x y newest → x ≢ y → mostTags ≤ ageOf w x → mostTags ≤ ageOf w y → Met w s t mostTags
 never w f s t x y newest h d l l′ = record { most = omega arith; joined = λ k. absurd (omega arith); apart = climb-never (parentOf w) (ageOf w) (f .links) (h .climbing) d l l′ }
 
 abbrev Inv-loop : tie.InvT-loop

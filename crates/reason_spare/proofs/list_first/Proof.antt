@@ -6,6 +6,7 @@ use native.Mathlib.Omega.{arith}
 use mathlib.Core.List.{List}
 use lib.ListN.{length, length-set}
 use native.Mathlib.Numerals.{add-one}
+use Rattle.table.specs.Places.{LIST}
 use Rattle.reason_spare.proofs.Differing.{chosen-unmarked, chosen-equation, chosen-first}
 use Rattle.reason_spare.proofs.list_first.Statement.{statement}
 use Rattle.reason_spare.proofs.list_first.Tie as tie
@@ -38,7 +39,7 @@ add-result : tie.Need-add-result
 add-result c = record { fits = omega arith }
 
 same-length-3 : tie.Need-same-length-3
-same-length-3 c = let s = c .before .before .before .before .before .before .before .before .before .before .before .before .before .before .args in ap (λ (l : List ℕ). length l) (c .before .before .put-listed .ensures) ∙ length-set (s .work .now) (17003 + s .c) (c .before .before .before .before .first .result .0)
+same-length-3 c = let s = c .before .before .before .before .before .before .before .before .before .before .before .before .before .before .args in ap (λ (l : List ℕ). length l) (c .before .before .put-listed .ensures) ∙ length-set (s .work .now) (LIST .at + s .c) (c .before .before .before .before .first .result .0)
 
 returns-3 : tie.Need-returns-3
 returns-3 c = rw add-one (chosen-first (sym (c .before .before .before .before .before .before .before .before .before .before .before .mark .ensures) ∙ c .before .before .before .before .before .before .before .before .before .before .if1 .left) (λ e. c .before .before .before .before .before .before .if2 .left (c .before .before .before .before .before .before .before .before .second .ensures ∙ e)) (c .before .before .before .before .first .ensures) (c .before .before .put-listed .ensures))

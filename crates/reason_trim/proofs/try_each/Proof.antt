@@ -4,13 +4,14 @@ use borrow.Author.Needs.{needs}
 use Prim.Native.Nat.{_≤_, _-_}
 use native.Mathlib.Omega.{arith}
 use mathlib.Core.Path.{_≡_}
+use Rattle.table.specs.Places.{MARKS}
 use Rattle.reason_trim.specs.Trimming.{Tried}
 use Rattle.reason_trim.proofs.Trying.{tried-start, tried-more, tried-saved}
 use Rattle.reason_trim.proofs.try_each.Statement.{statement}
 use Rattle.reason_trim.proofs.try_each.Tie as tie
 
 abbrev Inv-loop : tie.InvT-loop
-Inv-loop work₀ q kept i m joins made₀ j₀ work made j = (j ≤ m) × Tried 30096 (q .size) (q .len) (q .s .0) (q .t .0) work₀ work kept i j (q .n) made
+Inv-loop work₀ q kept i m joins made₀ j₀ work made j = (j ≤ m) × Tried (MARKS .at) (q .size) (q .len) (q .s .0) (q .t .0) work₀ work kept i j (q .n) made
 
 abbrev μ-loop : tie.MeasureT-loop
 μ-loop work₀ q kept i m joins made₀ j₀ work made j = m - j

@@ -45,6 +45,8 @@ use denote.Triple.Table.{entered, cited}
 use denote.Triple.Walked.{says, needs, Stays, stay-none, stay-none-slice, stay-slice, walkOf, goes-none, goes-none-slice, goes-slice, Walks, ends-at, walked, walk-meets}
 use denote.Exit.{yes}
 use denote.Signature.{plain}
+use Rattle.meaning.specs.Limits.{mostRecords, namedNumbers}
+use Rattle.table.specs.Places.{Large}
 use Rattle.records.specs.declared.Record.{Record}
 use Rattle.records.specs.Table.{blank}
 use Rattle.records.proofs.Rows.{after, R, val, vals, tells, typed}
@@ -141,7 +143,7 @@ module _ {M : Type 1} (𝓤 : URA M) (H : Heap 𝓤) (A : Atoms 𝓤) (W : Given
   abbrev Y-one : List ℕ → Val → Item 𝓤
   Y-one zs w = some (λ (u : Unit {0}). given (zs ≡ carry ws i r) (‵ (unit .own u (w ∷ []))))
 
-  goes-one : (32768 ≤ length ws) × (i < 4000) → i < 2 ^ 64 → Is R r (vals r) → (ν : ℕ) (δ : GName)
+  goes-one : Large ws × (i < mostRecords) → i < 2 ^ 64 → Is R r (vals r) → (ν : ℕ) (δ : GName)
       → ent 𝓤 (⋆ 𝓤 H A (‵ (flft (ν ∷ []) fullShare) ∷ ‵ (MutSlice (named 0) (ν ∷ []) u16 .own (xw δ) (sliceVal (bw, ow) (length ws) ∷ [])) ∷ ‵ ftrue ∷ [])) (One 𝓤 H A mem run .pre (to-one ν δ))
   goes-one asked fits is ν δ =
       qed W (‵ (flft (ν ∷ []) fullShare) ∷ ‵ (MutSlice (named 0) (ν ∷ []) u16 .own (xw δ) (sliceVal (bw, ow) (length ws) ∷ [])) ∷ ‵ ftrue ∷ []) ∵ says ! asked $
@@ -282,8 +284,8 @@ module _ {M : Type 1} (𝓤 : URA M) (H : Heap 𝓤) (A : Atoms 𝓤) (W : Given
           room : Room u16 (length u)
           room = subst (Room u16) (sym (as-long (i .0))) roomw
 
-          asked : (32768 ≤ length u) × (i .0 < 4000)
-          asked = (subst (λ (k : ℕ). 32768 ≤ k) (sym (as-long (i .0))) (can .long), omega (arith, less, can .most))
+          asked : Large u × (i .0 < mostRecords)
+          asked = (subst (λ (k : ℕ). namedNumbers ≤ k) (sym (as-long (i .0))) (can .long), omega (arith, less, can .most))
 
     turns : (i : Upto) → Sq W (At i) (runs C Λ En m.turn-1 (anyQ (Turned i)))
     unfolding afterTurn

@@ -8,6 +8,7 @@ use mathlib.Core.List.{List}
 use lib.ListN.{length, set, length-set}
 use denote.Ref.{now}
 use Rattle.table.specs.Map.{headOf}
+use Rattle.table.specs.Places.{HEADS, NEXT}
 use Rattle.table_labels.proofs.insert.Statement.{statement}
 use Rattle.table_labels.proofs.insert.Tie as tie
 
@@ -26,13 +27,13 @@ put-head-requires c κs = let p = c .before .before .before .before .before .bef
 returns : tie.Need-returns
 returns c =
     let s = c .before .before .before .before .before .before .before .before .before .before .before .args in
-    c .before .before .put-head .ensures ∙ ap (λ (l : List ℕ). set l (26003 + s .b) (s .i + 1)) (c .before .before .before .before .before .before .put-next .ensures ∙ ap (set (now (s .work)) (22003 + s .i)) (c .before .before .before .before .before .before .before .before .head .ensures))
+    c .before .before .put-head .ensures ∙ ap (λ (l : List ℕ). set l (HEADS .at + s .b) (s .i + 1)) (c .before .before .before .before .before .before .put-next .ensures ∙ ap (set (now (s .work)) (NEXT .at + s .i)) (c .before .before .before .before .before .before .before .before .head .ensures))
 
 same-length : tie.Need-same-length
 same-length c =
     let s = c .before .before .before .before .before .before .before .before .before .before .before .args in
-    let w₁ = set (now (s .work)) (22003 + s .i) (headOf (now (s .work)) (s .b)) in
-    ap (λ (l : List ℕ). length l) (returns c) ∙ length-set w₁ (26003 + s .b) (s .i + 1) ∙ length-set (now (s .work)) (22003 + s .i) (headOf (now (s .work)) (s .b))
+    let w₁ = set (now (s .work)) (NEXT .at + s .i) (headOf (now (s .work)) (s .b)) in
+    ap (λ (l : List ℕ). length l) (returns c) ∙ length-set w₁ (HEADS .at + s .b) (s .i + 1) ∙ length-set (now (s .work)) (NEXT .at + s .i) (headOf (now (s .work)) (s .b))
 
 pub insert-spec : {M : Type 1} → statement M
 insert-spec =

@@ -5,6 +5,7 @@ use mathlib.Core.Path.{_≡_, refl}
 use Prim.Native.Nat.{_+_, _-_}
 use native.Mathlib.Omega.{arith}
 use denote.Ref.{now}
+use Rattle.table.specs.Places.{LABEL}
 use Rattle.table_labels.proofs.merge.Statement.{statement}
 use Rattle.table_labels.proofs.merge.Tie as tie
 use Rattle.table_labels.proofs.Views.{relabelled}
@@ -30,8 +31,8 @@ same-length c = search needs
 returns : tie.Need-returns
 returns c =
     let s = c .before .before .before .before .before in
-    let z : 21003 + s .args .size - 21003 ≡ s .args .size = omega arith in
-    relabelled (21003 + s .args .size - 21003) (now (s .args .work)) _ (c .before .before .relabel .last .0) (s .args .lo .0) (s .args .hi .0) (s .pre .0) (rw z (s .pre .1)) (rw z (s .pre .2)) (rw z (s .pre .3)) refl (c .before .before .relabel .ensures)
+    let z : (LABEL .at) + s .args .size - LABEL .at ≡ s .args .size = omega arith in
+    relabelled (LABEL .at + s .args .size - LABEL .at) (now (s .args .work)) _ (c .before .before .relabel .last .0) (s .args .lo .0) (s .args .hi .0) (s .pre .0) (rw z (s .pre .1)) (rw z (s .pre .2)) (rw z (s .pre .3)) refl (c .before .before .relabel .ensures)
 
 pub merge-spec : {M : Type 1} → statement M
 merge-spec =
