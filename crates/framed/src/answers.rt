@@ -1,4 +1,4 @@
-// All that is written of a job and of a report. Rests on calls.
+// All that is written of a job and of a report. Rests on haltzurme_own.
 use crate::frames::put_answer;
 use crate::frames::put_bytes;
 use crate::frames::put_loan;
@@ -12,10 +12,10 @@ use crate::rubbish::record_of;
 use crate::rubbish::rubbish_of;
 use crate::rubbish::soil_room;
 use crate::rubbish::soil_table;
-use calls::recheck_over;
-use calls::run_over;
+use call_rest::Answer;
 use console::write_output;
-use finishing::Answer;
+use haltzurme_own::recheck_over;
+use haltzurme_own::run_over;
 
 // The first so many, or all where they are fewer.
 pub fn front(s: &[u8], n: usize) -> &[u8] {

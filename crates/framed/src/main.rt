@@ -1,7 +1,7 @@
 // framed: many jobs and reports in one process, for the comparison with the second program; compare/README.md, "Many jobs in one process", has the frames.
 // Before each call room and tables are filled with rubbish that differs from call to call, and after it room and work table are looked at: where they did
 // not end as document 01 says, "What is lent, and each refusal", a frame X tells of it. No contract says what is written: the second program judges that.
-// This file reads the stream and says what is lent for each frame. Rests on calls, records, job_read and console.
+// This file reads the stream and says what is lent for each frame. Rests on haltzurme_own, records, job_read and console.
 ghost use Prim.Native.Nat.{_≤_};
 use answers::answer;
 use answers::front;

@@ -9,14 +9,14 @@ use mathlib.Core.List.{List, [], _∷_, _++_}
 use lib.ListN.{length, getD, drop}
 use Rattle.meaning.proofs.Decide.{leader-one}
 use Rattle.meaning.proofs.Laws.{classes-one, idles-one, reason-follows}
-use Rattle.job.specs.Items.{Head, Matter, matterOf, Moment, start, after, ask, Item, posed, Reading, refused, accepted, neededRoom}
-use Rattle.job.specs.Reading.{namedPlaces, namedNumbers}
+use Rattle.meaning.specs.Limits.{namedNumbers, namedPlaces}
+use Rattle.job_field.specs.Items.{Head, Matter, matterOf, Moment, start, after, ask, Item, posed, Reading, refused, accepted, neededRoom}
 use Rattle.records.specs.declared.Record.{Record}
 use Rattle.records.specs.Table.{blank, Blanked}
 use Rattle.report.specs.Report.{numbers, field, led, because, apart, Totalled, total, Sound, totals, passed, answered}
-use Rattle.lent.specs.Clear.{Cleared}
-use Rattle.lent.specs.Lent.{Lent}
-use Rattle.running.specs.Run.{Ran, long, narrow, unread, cramped, done}
+use Rattle.call_look.specs.Clear.{Cleared}
+use Rattle.call_look.specs.Lent.{Lent}
+use Rattle.haltzurme.specs.Run.{Ran, long, narrow, unread, cramped, done}
 use Rattle.haltzurme.specs.Alike.{Alike, same, reasoned, OneRun, equal, chosen}
 use Rattle.haltzurme.specs.Alike as alike
 

@@ -7,17 +7,17 @@ use mathlib.Core.Path.{_≡_, refl}
 use mathlib.Core.List.{List, [], _∷_}
 use lib.ListN.{length, take}
 use lib.Seq.{take-at}
-use Rattle.job.specs.Items.{Head, matterOf, start, Item, Reading, refused, accepted}
-use Rattle.job.specs.Reading.{reading}
-use Rattle.job.proofs.Numbers.{refused-some}
+use Rattle.job_field.specs.Items.{Head, matterOf, start, Item, Reading, refused, accepted}
+use Rattle.job_field.specs.Reading.{reading}
+use Rattle.job_field.proofs.Numbers.{refused-some}
 use Rattle.records.specs.declared.Record.{Record}
 use Rattle.report.specs.Report.{Sound}
 use Rattle.report.specs.Fault.{FaultAt}
 use Rattle.report.proofs.Fault.{sound-no-fault, one-fault}
-use Rattle.lent.specs.Lent.{Lent, Emptied}
-use Rattle.running.specs.Run.{Ran}
-use Rattle.running.specs.Run as run
-use Rattle.rechecking.specs.Recheck.{Rechecked, long, narrow, unread, unsound, sound}
+use Rattle.call_look.specs.Lent.{Lent, Emptied}
+use Rattle.haltzurme.specs.Run.{Ran}
+use Rattle.haltzurme.specs.Run as run
+use Rattle.haltzurme.specs.Recheck.{Rechecked, long, narrow, unread, unsound, sound}
 use Rattle.haltzurme.proofs.One.{blanked-one, cleared-one, lent-not, clash, refused-one, accepted-one}
 
 -- A sound report has no fault, by whichever reading of the job.

@@ -6,7 +6,7 @@ use mathlib.Core.Path.{_≡_}
 use mathlib.Core.List.{List, [], _∷_, _++_}
 use lib.ListN.{length, drop}
 use Rattle.meaning.specs.Reasons.{Reason}
-use Rattle.job.specs.Items.{Matter, Note, Moment, start, after, Question, explain, Item, noted, posed}
+use Rattle.job_field.specs.Items.{Matter, Note, Moment, start, after, Question, explain, Item, noted, posed}
 use Rattle.report.specs.Report.{numbers, field}
 use Rattle.records.specs.declared.Record.{Record}
 

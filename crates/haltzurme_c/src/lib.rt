@@ -1,8 +1,8 @@
 // The tool for C: the run and the recheck on plain pointers and lengths. A slice is passed as a pointer and then a length; include/haltzurme.h
-// declares both functions. They lend a record table of their own and have no condition on their caller. Rests on calls.
-ghost use Rattle.calls.specs.Plain.{RanAlone, RecheckedAlone};
-use calls::recheck_report;
-use calls::run_job;
+// declares both functions. They lend a record table of their own and have no condition on their caller. Rests on haltzurme_own.
+ghost use Rattle.haltzurme_own.specs.Plain.{RanAlone, RecheckedAlone};
+use haltzurme_own::recheck_report;
+use haltzurme_own::run_job;
 
 // Answers a job: the number is the result; the place and the report's length are written.
 #[no_mangle]

@@ -4,11 +4,11 @@ use Prim.Native.Nat.{ℕ}
 use native.Mathlib.Omega.{arith}
 use mathlib.Core.Path.{_≡_, refl, ap}
 use mathlib.Core.List.{List}
-use Rattle.job.specs.Items.{Reading, refused, accepted}
-use Rattle.job.specs.Reading.{reading}
-use Rattle.job.specs.Answer.{numberOf}
-use Rattle.job.specs.Standing.{Taken}
-use Rattle.job.specs.declared.Fault.{Fault}
+use Rattle.job_field.specs.Items.{Reading, refused, accepted}
+use Rattle.job_field.specs.Reading.{reading}
+use Rattle.job_field.specs.Answer.{numberOf}
+use Rattle.job_field.specs.Standing.{Taken}
+use Rattle.job_field.specs.declared.Fault.{Fault}
 use Rattle.job_read.specs.Summary.{Summary, refusal, acceptance, told, summary}
 use Rattle.job_read.specs.declared.Answer.the-variants.{Refused, Accepted}
 

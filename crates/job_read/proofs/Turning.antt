@@ -7,14 +7,15 @@ use mathlib.Core.List.{List}
 use borrow.Author.Tests.{leb-true}
 use lib.Dec.{ltb, leb}
 use lib.ListN.{length}
-use Rattle.job.specs.Items.{Head, Note, Moment, start, after, Question, ask, explain, noted, posed, roomOf, Reading, refused, accepted, recordsOf, questionsOf, neededRoom}
-use Rattle.job.specs.Reading.{Field, bad, header, item, end, offsetOf, behindAt, fieldAt, checked, with, behind, onward, readFrom, reading}
-use Rattle.job.proofs.Items.{after-records, after-questions}
-use Rattle.job.proofs.Reading.{Sound, Passed, checked-passed, field-whole, Sized, read-sized, and-true}
-use Rattle.job.specs.Standing.{Few}
-use Rattle.job.proofs.Standing.{start-few, after-few}
-use Rattle.limits.specs.Counts.{momentOf}
-use Rattle.limits.specs.declared.Counts.{Counts}
+use Rattle.meaning.specs.Limits.{mostTags}
+use Rattle.job_field.specs.Items.{Head, Note, Moment, start, after, Question, ask, explain, noted, posed, roomOf, Reading, refused, accepted, recordsOf, questionsOf, neededRoom}
+use Rattle.job_field.specs.Reading.{Field, bad, header, item, end, offsetOf, behindAt, fieldAt, checked, with, behind, onward, readFrom, reading}
+use Rattle.job_field.proofs.Items.{after-records, after-questions}
+use Rattle.job_field.proofs.Reading.{Sound, Passed, checked-passed, field-whole, Sized, read-sized, and-true}
+use Rattle.job_field.specs.Standing.{Few}
+use Rattle.job_field.proofs.Standing.{start-few, after-few}
+use Rattle.job_limits.specs.Counts.{momentOf}
+use Rattle.job_limits.specs.declared.Counts.{Counts}
 use Rattle.job_read.specs.Summary.{refusal, summary, told}
 use Rattle.job_read.specs.Turns.{headSeen, tally, tallied, Going, Turned, on, done}
 use Rattle.job_read.specs.declared.Seen.{Seen}
@@ -39,7 +40,7 @@ tally-question H b room q (accepted M is) h =
     rw (h, ← after-questions b (posed q) is, e)
 
 -- No question needs more room than 4,000 bytes.
-room-most : (H : Head) (b : Moment) (q : Question) → H .size ≤ 1000 → roomOf H b q ≤ 4000
+room-most : (H : Head) (b : Moment) (q : Question) → H .size ≤ mostTags → roomOf H b q ≤ 4 * mostTags
 room-most H b (ask s t) h = omega arith
 room-most H b (explain s t) h = omega arith
 
@@ -66,7 +67,7 @@ module _ (job : List ℕ) (s : Seen) (h : Going job s) where
   on-header M n i e =
       let p = checked-passed (headSeen s) (momentOf (s .counts)) (fieldAt job (s .at)) (header (record { size = M })) tt e in
       let w : behindAt job (s .at) ≤ length job = there (header (record { size = M })) tt e in
-      let m : M ≤ 1000 = leb-true M 1000 (and-true (ltb 0 M) (leb M 1000) (p .number) .1) in
+      let m : M ≤ mostTags = leb-true M mostTags (and-true (ltb 0 M) (leb M mostTags) (p .number) .1) in
       rw i (on {t = record { at = behindAt job (s .at); size = M; counts = s .counts; room = s .room }} (omega arith) (record { within = w; size = m; few = h .few; room = h .room }) (λ fuel. step job s (header (record { size = M })) e fuel))
 
   pub on-note : (n : Note) (k : ℕ) (c : Counts) → k ≡ behindAt job (s .at) → momentOf c ≡ after (noted n) (momentOf (s .counts)) → Next job s (item (noted n))
@@ -87,7 +88,7 @@ module _ (job : List ℕ) (s : Seen) (h : Going job s) where
       let w : behindAt job (s .at) ≤ length job = there (item (posed q)) tt e in
       let m : Few (momentOf c) = subst Few (sym j) (after-few (momentOf (s .counts)) (posed q) (h .few) (p .count)) in
       let x : ℕ = roomOf (headSeen s) (momentOf (s .counts)) q in
-      let l : x ≤ 4000 = room-most (headSeen s) (momentOf (s .counts)) q (h .size) in
+      let l : x ≤ 4 * mostTags = room-most (headSeen s) (momentOf (s .counts)) q (h .size) in
       let y : c .questions ≡ s .counts .questions + 1 = ap (λ (x : Moment). x .questions) j in
       rw (i, z) (on {t = record { at = behindAt job (s .at); size = s .size; counts = c; room = s .room + x }} (omega arith) (record { within = w; size = h .size; few = m; room = omega (arith, h .room, l) })
       (λ fuel. step job s (item (posed q)) e fuel ∙ tally-question (headSeen s) (momentOf (s .counts)) (s .room) q (readFrom fuel job (headSeen s) (after (posed q) (momentOf (s .counts))) (behindAt job (s .at))) (read-sized fuel job (headSeen s) (after (posed q) (momentOf (s .counts))) (behindAt job (s .at)) (omega arith))

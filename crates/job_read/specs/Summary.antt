@@ -2,8 +2,8 @@
 -- Assumes nothing.
 use Prim.Native.Nat.{ℕ}
 use lib.ListN.{length}
-use Rattle.job.specs.Items.{Head, start, Reading, refused, accepted, recordsOf, questionsOf, neededRoom}
-use Rattle.job.specs.Answer.{numberOf}
+use Rattle.job_field.specs.Items.{Head, start, Reading, refused, accepted, recordsOf, questionsOf, neededRoom}
+use Rattle.job_field.specs.Answer.{numberOf}
 use Rattle.job_read.specs.declared.Answer.{Answer}
 use Rattle.job_read.specs.declared.Answer.the-variants.{Refused, Accepted}
 

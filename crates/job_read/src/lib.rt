@@ -1,24 +1,25 @@
 // A whole job read: it is accepted, or refused by number and place. Document 01, "What is lent, and each refusal", numbers 3 to 8, and document 02, No. 2,
-// numbers 11 to 13. Its fields come from the reader in job, and limits tests each. Rests on job and limits.
+// numbers 11 to 13. Its fields come from the reader in job_field, and job_limits tests each. Rests on job_field and job_limits.
 ghost use mathlib.Core.Path.{_≡_};
 ghost use Prim.Native.Nat.{_+_, _*_, _-_, _≤_, _<_, min};
 ghost use lib.ListN.{length};
-ghost use Rattle.job.specs.Items.{roomOf};
-ghost use Rattle.job.specs.Answer.{questionSaid};
-ghost use Rattle.job.specs.Reading.{behind as behindEnd, behindAt, reading};
-ghost use Rattle.limits.specs.Counts.{momentOf};
+ghost use Rattle.meaning.specs.Limits.{mostTags};
+ghost use Rattle.job_field.specs.Items.{roomOf};
+ghost use Rattle.job_field.specs.Answer.{questionSaid};
+ghost use Rattle.job_field.specs.Reading.{behind as behindEnd, behindAt, reading};
+ghost use Rattle.job_limits.specs.Counts.{momentOf};
 ghost use Rattle.job_read.specs.Summary.{told, summary};
 ghost use Rattle.job_read.specs.Turns.{headSeen, tally, Going, Turned};
-use job::Fault;
-use job::Field;
-use job::Query;
-use job::behind;
-use job::offset_of;
-use job::read;
-use limits::Counts;
-use limits::allowed;
-use limits::past_note;
-use limits::past_question;
+use job_field::Fault;
+use job_field::Field;
+use job_field::Query;
+use job_field::behind;
+use job_field::offset_of;
+use job_field::read;
+use job_limits::Counts;
+use job_limits::allowed;
+use job_limits::past_note;
+use job_limits::past_question;
 
 // The room that the report needs for the totals, and for an ask.
 const ROOM_OF_TOTALS: usize = 7;
@@ -76,8 +77,8 @@ fn most_numbers(size: u16, records: u16) -> usize
 
 // The room that a question needs at its moment.
 fn room_of(size: u16, c: Counts, q: Query) -> usize
-    requires { ⌜ size ≤ 1000 ⌝ }
-    ensures { λ r. ⌜ (r ≡ roomOf (record { size = size }) (momentOf c) (questionSaid q)) × (r ≤ 4000) ⌝ }
+    requires { ⌜ size ≤ mostTags ⌝ }
+    ensures { λ r. ⌜ (r ≡ roomOf (record { size = size }) (momentOf c) (questionSaid q)) × (r ≤ 4 * mostTags) ⌝ }
 {
     let most = most_numbers(size, c.records);
     match q {

@@ -2,7 +2,7 @@
 // place, and after a colon the job's bytes; an empty line parts those that stand alone from those that go on behind 4,000 records, behind 1,000 questions, and
 // behind the longest job. A line that is written is a name, the number and the place that `job_read::read_job` answered; where those are not the expected ones,
 // they are written behind. Of an accepted job a second line tells N, the records, the questions and the needed room. Every truncation, every changed byte and
-// jobs in disorder are the comparison's (compare/framed). Rests on job, job_read and console; no contract says what is written, the stored output does.
+// jobs in disorder are the comparison's (compare/framed). Rests on job_field, job_read and console; no contract says what is written, the stored output does.
 ghost use mathlib.Core.Path.{_≡_};
 use console::Got;
 use console::read_input;
@@ -34,7 +34,7 @@ fn word(x: u16) -> u64
 fn answered(bytes: &[u8]) -> Verdict {
     match job_read::read_job(bytes) {
         job_read::Answer::Refused { fault, place } => Verdict {
-            number: byte(job::number_of(fault)),
+            number: byte(job_field::number_of(fault)),
             place: size(place),
         },
         job_read::Answer::Accepted {
@@ -71,7 +71,7 @@ fn known(name: &[u8], bytes: &[u8]) {
     io::write_all(1, name);
     match job_read::read_job(bytes) {
         job_read::Answer::Refused { fault, place } => {
-            pair(byte(job::number_of(fault)), size(place));
+            pair(byte(job_field::number_of(fault)), size(place));
         }
         job_read::Answer::Accepted {
             size: tags,

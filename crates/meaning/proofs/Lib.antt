@@ -15,3 +15,4 @@ pub mod Forest
 pub mod Walk
 pub mod Table
 pub mod Tests
+pub mod Needed

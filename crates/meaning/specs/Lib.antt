@@ -1,3 +1,4 @@
+pub mod Limits
 pub mod Following
 pub mod Reasons
 pub mod Joins
@@ -7,3 +8,4 @@ pub mod Totals
 pub mod Cases
 pub mod Forest
 pub mod Walk
+pub mod Needed

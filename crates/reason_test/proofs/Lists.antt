@@ -18,15 +18,17 @@ use Rattle.meaning.proofs.Rising.{take-out, rising-short}
 use Rattle.meaning.proofs.Short.{decAmong}
 use Rattle.table.specs.Map.{listOf, listIn, recordsIn, gather, Within}
 use Rattle.table.proofs.Frame.{seen-in, seen-within, within-refl, within-trans, within-wider, within-set, length-gather, gather-same, gather-in, in-gather}
-use Rattle.closure.specs.Closing.{Listed, Entailing}
-use Rattle.listing.specs.Listing.{waitingIn}
-use Rattle.trimming.specs.Trimming.{Followed, Pruned}
-use Rattle.rising.specs.Rising.{Numbered, Sorted}
-use Rattle.listing.proofs.Gathering.{list-hit, list-miss}
-use Rattle.meeting.proofs.Kept.{kept-records, kept-loaded, kept-past}
+use Rattle.list_close.specs.Closing.{Listed, Entailing}
+use Rattle.reason_list.specs.Listing.{waitingIn}
+use Rattle.reason_trim.specs.Trimming.{Followed, Pruned}
+use Rattle.reason_order.specs.Rising.{Numbered, Sorted}
+use Rattle.reason_list.proofs.Gathering.{list-hit, list-miss}
+use Rattle.moment.proofs.Kept.{kept-records, kept-loaded, kept-past}
 use Rattle.meaning.proofs.Tests.{is-not, is-so}
-use Rattle.question.specs.declared.Question.{Question}
-use Rattle.question.specs.Posed.{Posed, Deciding}
+use Rattle.meaning.specs.Limits.{mostRecords}
+use Rattle.table.specs.Places.{LIST, Large, allOf, fromTo, scratch, waitingAt}
+use Rattle.moment.specs.declared.Question.{Question}
+use Rattle.moment.specs.Posed.{Posed, Deciding}
 use Rattle.reason_test.specs.Lists.{Swap, Swapped, Arranged, Moved, Named, Serving, Entailed, NoneSpare, Sufficient}
 
 -- Exchanging.
@@ -53,15 +55,15 @@ pub swap-same : {f g : ℕ → ℕ} {i j n : ℕ} → Swap f g i j → i < n →
 swap-same h l m x = (swap-into (swap-back h) l m x, swap-into h l m x)
 
 -- Two stores exchange two places.
-pub swap-stored : (w : List ℕ) (i j a b : ℕ) → 32768 ≤ length w → i < 4000 → j < 4000 → a ≡ listOf w i → b ≡ listOf w j → Swapped i j w (set (set w (17003 + i) b) (17003 + j) a)
+pub swap-stored : (w : List ℕ) (i j a b : ℕ) → Large w → i < mostRecords → j < mostRecords → a ≡ listOf w i → b ≡ listOf w j → Swapped i j w (set (set w (LIST .at + i) b) (LIST .at + j) a)
 swap-stored w i j a b k l m p q =
-    let v = set w (17003 + i) b in
-    let f : Within 17003 21003 w v = within-set 17003 21003 w (17003 + i) b (omega arith) (omega arith) in
-    let k′ : 32768 ≤ length v = rw (f .size) k in
-    let e : listOf v ≡ put i b (listOf w) = seen-in 17003 4000 (λ x. 0) w i b l (omega arith) in
-    let e′ : listOf (set v (17003 + j) a) ≡ put j a (listOf v) = seen-in 17003 4000 (λ x. 0) v j a m (omega arith) in
+    let v = set w (LIST .at + i) b in
+    let f : Within (allOf LIST) w v = within-set (allOf LIST) w (LIST .at + i) b (omega arith) (omega arith) in
+    let k′ : Large v = rw (f .size) k in
+    let e : listOf v ≡ put i b (listOf w) = seen-in LIST w i b l (omega arith) in
+    let e′ : listOf (set v (LIST .at + j) a) ≡ put j a (listOf v) = seen-in LIST v j a m (omega arith) in
     record {
-      kept = within-trans f (within-set 17003 21003 v (17003 + j) a (omega arith) (omega arith));
+      kept = within-trans f (within-set (allOf LIST) v (LIST .at + j) a (omega arith) (omega arith));
       swap = rw (e′, e, p, q) (puts (listOf w));
     }
   where
@@ -76,11 +78,11 @@ swap-stored w i j a b k l m p q =
         go (yes e) = rw e (put-hit j (f j) (put j (f j) f))
         go (no e) = put-miss j (f i) (put i (f j) f) i e ∙ put-hit i (f j) f
 
-pub swap-stores : (w v v′ : List ℕ) (i j a b : ℕ) → 32768 ≤ length w → i < 4000 → j < 4000 → a ≡ listOf w i → b ≡ listOf w j → v ≡ set w (17003 + i) b → v′ ≡ set v (17003 + j) a → Swapped i j w v′
+pub swap-stores : (w v v′ : List ℕ) (i j a b : ℕ) → Large w → i < mostRecords → j < mostRecords → a ≡ listOf w i → b ≡ listOf w j → v ≡ set w (LIST .at + i) b → v′ ≡ set v (LIST .at + j) a → Swapped i j w v′
 swap-stores w v v′ i j a b k l m p q e e′ = rw (e′, e) (swap-stored w i j a b k l m p q)
 
 -- What is kept where only the list and what lies behind it is written.
-pub posed-kept : {w w′ : List ℕ} {q : Question} {e : ℕ} → Within 17003 e w w′ → Posed w q → Posed w′ q
+pub posed-kept : {w w′ : List ℕ} {q : Question} {e : ℕ} → Within (fromTo (LIST .at) e) w w′ → Posed w q → Posed w′ q
 posed-kept f p = record { past = kept-past f (p .past); early = p .early; from = p .from; to = p .to }
 
 listed-names : {w : List ℕ} {N len n : ℕ} → Listed N len n w → (k : ℕ) → List·Memᴰ k (listIn n w) → (1 ≤ k) × (k ≤ len)
@@ -89,7 +91,7 @@ listed-names {w} {N} {len} {n} l k m =
     let b = l .named (r .0) (r .1) in
     (omega (arith, b .0, r .2), omega (arith, b .1, r .2))
 
-pub listed-kept : {w w′ : List ℕ} {N len e n : ℕ} → Within 17003 e w w′ → ((x : ℕ) → List·Memᴰ x (listIn n w′) → List·Memᴰ x (listIn n w)) → Listed N len n w → Listed N len n w′
+pub listed-kept : {w w′ : List ℕ} {N len e n : ℕ} → Within (fromTo (LIST .at) e) w w′ → ((x : ℕ) → List·Memᴰ x (listIn n w′) → List·Memᴰ x (listIn n w)) → Listed N len n w → Listed N len n w′
 listed-kept {w} {w′} {N} {len} {e} {n} f h l = record {
   loaded = kept-loaded f (l .loaded);
   short = l .short;
@@ -99,25 +101,25 @@ listed-kept {w} {w′} {N} {len} {e} {n} f h l = record {
 -- The list comes to where those wait that are tried, number by number.
 pub record Moving (w w′ : List ℕ) (i : ℕ) : Type 0 where
   pub moved : Moved i w w′
-  pub front : (x : ℕ) → x < 2000 → listOf w′ x ≡ listOf w x
+  pub front : (x : ℕ) → x < waitingAt → listOf w′ x ≡ listOf w x
 
 pub moving-none : (w : List ℕ) → Moving w w 0
 moving-none w = record { moved = record { kept = within-refl w; is = refl }; front = λ x l. refl }
 
-pub moving-more : (i k : ℕ) (w w₁ w₂ : List ℕ) → 32768 ≤ length w → i < 2000 → Moving w w₁ i → k ≡ listOf w₁ i → w₂ ≡ set w₁ (17003 + (2000 + i)) k → Moving w w₂ (i + 1)
-moving-more i k w w₁ w₂ h l m q e = rw e (record { moved = record { kept = kept; is = is }; front = λ x o. list-miss w₁ (2000 + i) k x (omega arith) long (λ z. omega arith) ∙ m .front x o })
+pub moving-more : (i k : ℕ) (w w₁ w₂ : List ℕ) → Large w → i < waitingAt → Moving w w₁ i → k ≡ listOf w₁ i → w₂ ≡ set w₁ (LIST .at + (waitingAt + i)) k → Moving w w₂ (i + 1)
+moving-more i k w w₁ w₂ h l m q e = rw e (record { moved = record { kept = kept; is = is }; front = λ x o. list-miss w₁ (waitingAt + i) k x (omega arith) long (λ z. omega arith) ∙ m .front x o })
   where
-    long : 32768 ≤ length w₁
+    long : Large w₁
     long = omega (arith, m .moved .kept .size)
 
-    kept : Within 17003 21003 w (set w₁ (17003 + (2000 + i)) k)
-    kept = within-trans (m .moved .kept) (within-set 17003 21003 w₁ (17003 + (2000 + i)) k (omega arith) (omega arith))
+    kept : Within (allOf LIST) w (set w₁ (LIST .at + (waitingAt + i)) k)
+    kept = within-trans (m .moved .kept) (within-set (allOf LIST) w₁ (LIST .at + (waitingAt + i)) k (omega arith) (omega arith))
 
-    is : waitingIn (i + 1) (set w₁ (17003 + (2000 + i)) k) ≡ listIn (i + 1) w
+    is : waitingIn (i + 1) (set w₁ (LIST .at + (waitingAt + i)) k) ≡ listIn (i + 1) w
     is =
-        let w₃ = set w₁ (17003 + (2000 + i)) k in
-        let a : waitingIn i w₃ ≡ listIn i w = gather-same (λ j. listOf w₃ (2000 + j)) (λ j. listOf w₁ (2000 + j)) i (λ j o. list-miss w₁ (2000 + i) k (2000 + j) (omega arith) long (λ z. omega arith)) ∙ m .moved .is in
-        let b : listOf w₃ (2000 + i) ≡ listOf w i = list-hit w₁ (2000 + i) k (omega arith) long ∙ q ∙ m .front i l in
+        let w₃ = set w₁ (LIST .at + (waitingAt + i)) k in
+        let a : waitingIn i w₃ ≡ listIn i w = gather-same (λ j. listOf w₃ (waitingAt + j)) (λ j. listOf w₁ (waitingAt + j)) i (λ j o. list-miss w₁ (waitingAt + i) k (waitingAt + j) (omega arith) long (λ z. omega arith)) ∙ m .moved .is in
+        let b : listOf w₃ (waitingAt + i) ≡ listOf w i = list-hit w₁ (waitingAt + i) k (omega arith) long ∙ q ∙ m .front i l in
         rw (add-one, a, b)
 
 -- What trimming leaves of a list, in rising order, is as many exactly if none of the list can be spared.
@@ -136,8 +138,8 @@ module _ {w w₁ : List ℕ} {q : Question} {n : ℕ} (h : Named w q n) (M : Mov
     left-in : (x : ℕ) → List·Memᴰ x (listIn kept w₂) → List·Memᴰ x (listIn n w)
     left-in x i = rw (M .is) at (P .fewer x i)
 
-    wide : Within 17003 32096 w w₂
-    wide = within-trans (within-wider 17003 32096 (omega arith) (omega arith) (M .kept)) (P .kept-in)
+    wide : Within scratch w w₂
+    wide = within-trans (within-wider scratch (omega arith) (omega arith) (M .kept)) (P .kept-in)
 
     pub tight-numbered : Numbered w₂ (q .len) kept
     tight-numbered = record {
@@ -169,7 +171,7 @@ module _ {w w₁ : List ℕ} {q : Question} {n : ℕ} (h : Named w q n) (M : Mov
 
       pub tight-decided : Deciding (NoneSpare w q n) w w₃ (eqb c n)
       tight-decided = record {
-        kept = within-trans wide (within-wider 17003 32096 (omega arith) (omega arith) (S .kept));
+        kept = within-trans wide (within-wider scratch (omega arith) (omega arith) (S .kept));
         exact = is-so c n
             (λ e. record { unspared = λ m i f. P .unspared m (all-left e m i) (rw (kept-records wide (q .len)) (more-of (λ y j. (all-left e y (j .0), j .1)) f)) })
             (λ u.
@@ -181,10 +183,10 @@ module _ {w w₁ : List ℕ} {q : Question} {n : ℕ} (h : Named w q n) (M : Mov
 -- The closure of the list.
 module _ {w w′ : List ℕ} {N len n s t : ℕ} {answer : Bool} (h : Entailing N len n s t w w′ answer) where
   pub list-same : listOf w′ ≡ listOf w
-  list-same = seen-within 17003 4000 (λ x. 0) (h .kept) (inl (omega arith))
+  list-same = seen-within LIST (h .kept) (inl (omega arith))
 
-  pub entailing-kept : Within 17003 32096 w w′
-  entailing-kept = within-wider 17003 32096 (omega arith) (omega arith) (h .kept)
+  pub entailing-kept : Within scratch w w′
+  entailing-kept = within-wider scratch (omega arith) (omega arith) (h .kept)
 
 -- The list entails, and then none is spare.
 module _ {w w′ : List ℕ} (q : Question) {n : ℕ} {answer : Bool} (h : Entailing (q .size) (q .len) n (q .s .0) (q .t .0) w w′ answer) where
@@ -250,6 +252,6 @@ pub arranged-serving : {w w′ w″ : List ℕ} (q : Question) {n : ℕ} {answer
 arranged-serving {w} {w′} {w″} q {n} {answer} h d =
     let x : (answer ≡ true) ↔ Serving (recordsIn (q .len) w) (q .s .0) (q .t .0) (listIn n w′) = rw (kept-records (h .kept) (q .len)) at (d .exact) in
     record {
-      kept = within-trans (within-wider 17003 32096 (omega arith) (omega arith) (h .kept)) (d .kept);
+      kept = within-trans (within-wider scratch (omega arith) (omega arith) (h .kept)) (d .kept);
       exact = (λ e. serving-same (λ y. (h .same y .1, h .same y .0)) (x .0 e), λ s. x .1 (serving-same (h .same) s));
     }

@@ -8,10 +8,11 @@ use lib.ListN.{length}
 use Rattle.meaning.specs.Following.{Rec, Follows, Only, Without}
 use Rattle.meaning.specs.Reasons.{Above}
 use Rattle.table.specs.Map.{listOf, listIn, recordsIn, Within}
-use Rattle.closure.specs.Closing.{Listed}
-use Rattle.listing.specs.Listing.{waitingIn}
-use Rattle.question.specs.declared.Question.{Question}
-use Rattle.question.specs.Posed.{Posed}
+use Rattle.table.specs.Places.{LIST, allOf, mostWaiting}
+use Rattle.list_close.specs.Closing.{Listed}
+use Rattle.reason_list.specs.Listing.{waitingIn}
+use Rattle.moment.specs.declared.Question.{Question}
+use Rattle.moment.specs.Posed.{Posed}
 
 -- Places i and j of a list were exchanged.
 pub record Swap (f g : ℕ → ℕ) (i j : ℕ) : Type 0 where
@@ -20,12 +21,12 @@ pub record Swap (f g : ℕ → ℕ) (i j : ℕ) : Type 0 where
   pub other : (x : ℕ) → x ≢ i → x ≢ j → g x ≡ f x
 
 pub record Swapped (i j : ℕ) (w w′ : List ℕ) : Type 0 where
-  pub kept : Within 17003 21003 w w′
+  pub kept : Within (allOf LIST) w w′
   pub swap : Swap (listOf w) (listOf w′) i j
 
 -- The first n numbers of the list may stand in another order, and nothing else changed.
 pub record Arranged (n : ℕ) (w w′ : List ℕ) : Type 0 where
-  pub kept : Within 17003 21003 w w′
+  pub kept : Within (allOf LIST) w w′
   pub same : (x : ℕ) → List·Memᴰ x (listIn n w) ↔ List·Memᴰ x (listIn n w′)
 
 -- The same, and p of its places at most are settled.
@@ -35,14 +36,14 @@ pub record Brought (n p : ℕ) (w w′ : List ℕ) : Type 0 where
 
 -- The first n numbers of the list came to where those wait that are tried.
 pub record Moved (n : ℕ) (w w′ : List ℕ) : Type 0 where
-  pub kept : Within 17003 21003 w w′
+  pub kept : Within (allOf LIST) w w′
   pub is : waitingIn n w′ ≡ listIn n w
 
 -- The list names records of the table, each once: in rising order they are as many.
 pub record Named (w : List ℕ) (q : Question) (n : ℕ) : Type 0 where
   pub posed : Posed w q
   pub listed : Listed (q .size) (q .len) n w
-  pub few : n ≤ 1998
+  pub few : n ≤ mostWaiting
   pub ordered : List ℕ
   pub rising : Above 0 ordered
   pub many : length ordered ≡ n

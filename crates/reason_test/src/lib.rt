@@ -1,15 +1,17 @@
 // Whether the numbers that stand in the table's list, each once, suffice for a reason: they make s and t equal, and none of them can be
-// spared. Document 01, "Reasons". Rests on table, question, closure, trimming and rising.
+// spared. Document 01, "Reasons". Rests on table, moment, list_close, reason_trim and reason_order.
 ghost use Prim.Native.Nat.{_≤_, _<_};
 ghost use lib.ListN.{length};
-ghost use Rattle.question.specs.Posed.{Deciding};
+ghost use Rattle.meaning.specs.Limits.{mostRecords, mostTags};
+ghost use Rattle.table.specs.Places.{Large, waitingAt};
+ghost use Rattle.moment.specs.Posed.{Deciding};
 ghost use Rattle.reason_test.specs.Lists.{Swapped, Arranged, Brought, Moved, Named, Entailed, NoneSpare, Sufficient};
 use meaning::RecordNo;
-use question::Question;
+use moment::Question;
 
 // Two places of the list exchange their numbers.
 fn swap(work: &mut [u16], i: usize, j: usize)
-    requires { ⌜ (32768 ≤ length (now work)) × (i < 4000) × (j < 4000) ⌝ }
+    requires { ⌜ Large (now work) × (i < mostRecords) × (j < mostRecords) ⌝ }
     ensures { λ _. ⌜ Swapped i j (now (work .entry)) (now (work .exit)) ⌝ }
 {
     let a = table::listed(work, i);
@@ -20,13 +22,13 @@ fn swap(work: &mut [u16], i: usize, j: usize)
 
 // The first numbers of the list come to where those wait that are tried.
 fn put_waiting(work: &mut [u16], count: usize)
-    requires { ⌜ (32768 ≤ length (now work)) × (count ≤ 2000) ⌝ }
+    requires { ⌜ Large (now work) × (count ≤ waitingAt) ⌝ }
     ensures { λ _. ⌜ Moved count (now (work .entry)) (now (work .exit)) ⌝ }
 {
     let mut i = 0;
     while i < count {
         let r = table::listed(work, i);
-        table::put_listed(work, listing::WAITING + i, r);
+        table::put_listed(work, reason_list::WAITING + i, r);
         i += 1;
     }
 }
@@ -37,8 +39,8 @@ fn tight(work: &mut [u16], count: usize, q: Question) -> bool
     ensures { λ r. ⌜ Deciding (NoneSpare (now (work .entry)) q count) (now (work .entry)) (now (work .exit)) r ⌝ }
 {
     put_waiting(work, count);
-    let kept = trimming::trim(work, q.size, q.len, count, q.s, q.t);
-    rising::put_rising(work, q.len, kept) == count
+    let kept = reason_trim::trim(work, q.size, q.len, count, q.s, q.t);
+    reason_order::put_rising(work, q.len, kept) == count
 }
 
 // Whether the list makes s and t equal, and none of its numbers can be spared.
@@ -46,7 +48,7 @@ fn suffices(work: &mut [u16], count: usize, q: Question) -> bool
     requires { ⌜ Named (now work) q count ⌝ }
     ensures { λ r. ⌜ Deciding (Sufficient (now (work .entry)) q count) (now (work .entry)) (now (work .exit)) r ⌝ }
 {
-    if closure::entails(work, q.size, q.len, count, q.s, q.t) {
+    if list_close::entails(work, q.size, q.len, count, q.s, q.t) {
         tight(work, count, q)
     } else {
         false
@@ -55,7 +57,7 @@ fn suffices(work: &mut [u16], count: usize, q: Question) -> bool
 
 // If record r stands in the list from place p on, it comes to place p. Says which place is next.
 fn bring(work: &mut [u16], count: usize, p: usize, r: RecordNo) -> usize
-    requires { ⌜ (32768 ≤ length (now work)) × (count ≤ 4000) × (p ≤ count) ⌝ }
+    requires { ⌜ Large (now work) × (count ≤ mostRecords) × (p ≤ count) ⌝ }
     ensures { λ n. ⌜ Brought count n (now (work .entry)) (now (work .exit)) ⌝ }
 {
     let mut j = p;
@@ -72,7 +74,7 @@ fn bring(work: &mut [u16], count: usize, p: usize, r: RecordNo) -> usize
 
 // The same for both records of the join of age a.
 fn bring_both(work: &mut [u16], count: usize, p: usize, a: usize) -> usize
-    requires { ⌜ (32768 ≤ length (now work)) × (count ≤ 4000) × (p ≤ count) × (a < 1000) ⌝ }
+    requires { ⌜ Large (now work) × (count ≤ mostRecords) × (p ≤ count) × (a < mostTags) ⌝ }
     ensures { λ n. ⌜ Brought count n (now (work .entry)) (now (work .exit)) ⌝ }
 {
     let r = table::first(work, a);
@@ -83,7 +85,7 @@ fn bring_both(work: &mut [u16], count: usize, p: usize, a: usize) -> usize
 
 // Puts the list into the order in which the closure of all records came to use them: in that order its own closure needs few passes.
 fn arrange(work: &mut [u16], count: usize, joins: usize)
-    requires { ⌜ (32768 ≤ length (now work)) × (count ≤ 4000) × (joins ≤ 1000) ⌝ }
+    requires { ⌜ Large (now work) × (count ≤ mostRecords) × (joins ≤ mostTags) ⌝ }
     ensures { λ _. ⌜ Arranged count (now (work .entry)) (now (work .exit)) ⌝ }
 {
     let mut p = 0;

@@ -6,6 +6,7 @@ use Prim.Native.Nat.{ℕ, zero, suc, _+_, _<_}
 use native.Mathlib.Nat.{add-zero, add-suc, not-suc-le-zero, le-of-suc-le-suc}
 use mathlib.Core.List.{List, [], _∷_}
 use lib.ListN.{length, set, getD, drop}
+use Rattle.meaning.specs.Limits.{namedPlaces}
 use Rattle.records.specs.declared.Record.{Record}
 use Rattle.records.specs.Table.{blank, Blanked}
 
@@ -44,9 +45,9 @@ module _ {A : Type 0} (d : A) where
   drop-cleared [] (suc n) = refl
   drop-cleared (x ∷ xs) (suc n) = drop-cleared xs n
 
-pub cleared-blanked : (t : List Record) → Blanked t (cleared blank t 4000)
-cleared-blanked t = record { size = length-cleared blank t 4000; zero = getD-cleared blank t 4000; rest = drop-cleared blank t 4000 }
+pub cleared-blanked : (t : List Record) → Blanked t (cleared blank t namedPlaces)
+cleared-blanked t = record { size = length-cleared blank t namedPlaces; zero = getD-cleared blank t namedPlaces; rest = drop-cleared blank t namedPlaces }
 
 -- A table that was filled before it was cleared is as it was behind its named places.
-pub blanked-over : (t t′ t″ : List Record) → length t′ ≡ length t → drop 4000 t′ ≡ drop 4000 t → Blanked t′ t″ → Blanked t t″
+pub blanked-over : (t t′ t″ : List Record) → length t′ ≡ length t → drop namedPlaces t′ ≡ drop namedPlaces t → Blanked t′ t″ → Blanked t t″
 blanked-over t t′ t″ l d b = record { size = b .size ∙ l; zero = b .zero; rest = b .rest ∙ d }

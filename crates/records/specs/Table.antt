@@ -7,6 +7,7 @@ use mathlib.Core.List.{List}
 use lib.Dec.{eqb}
 use lib.ListN.{length, getD, drop}
 use Rattle.meaning.specs.Following.{Rec, eq, app}
+use Rattle.meaning.specs.Limits.{namedPlaces}
 use Rattle.records.specs.declared.Record.{Record}
 
 -- A place that is zero: kind 0, no record.
@@ -25,5 +26,5 @@ recOf p = cond (eqb (p .kind) 1) (eq (p .a .0) (p .b .0)) (app (p .a .0) (p .b .
 -- "The named places .. (the first 4,000 ..) are zero and the rest is as it was": from a table t to t′.
 pub record Blanked (t t′ : List Record) : Type 0 where
   pub size : length t′ ≡ length t
-  pub zero : (i : ℕ) → i < 4000 → getD t′ i blank ≡ blank
-  pub rest : drop 4000 t′ ≡ drop 4000 t
+  pub zero : (i : ℕ) → i < namedPlaces → getD t′ i blank ≡ blank
+  pub rest : drop namedPlaces t′ ≡ drop namedPlaces t

@@ -3,11 +3,12 @@
 ghost use mathlib.Core.Path.{_≡_};
 ghost use Prim.Native.Nat.{_<_, _≤_};
 ghost use lib.ListN.{length, set, getD};
+ghost use Rattle.meaning.specs.Limits.{namedPlaces};
 ghost use Rattle.records.specs.Table.{blank, Blanked};
 use meaning::Tag;
 
 // The named places.
-pub const NAMED: usize = 4000;
+pub const NAMED: usize = meaning::NAMED_PLACES;
 
 // A place of the table. Kind 1 is the record a = b, with c zero; kind 2 is f(a, b) = c; kind 0 is no record, and then all is zero.
 pub struct Record {
@@ -35,7 +36,7 @@ pub fn store(records: &mut [Record], i: usize, r: Record)
 
 // The named places become zero.
 pub fn clear(records: &mut [Record])
-    requires { ⌜ 4000 ≤ length (now records) ⌝ }
+    requires { ⌜ namedPlaces ≤ length (now records) ⌝ }
     ensures { λ _. ⌜ Blanked (now (records .entry)) (now (records .exit)) ⌝ }
 {
     let none = Record {

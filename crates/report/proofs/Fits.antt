@@ -9,7 +9,7 @@ use lib.ListN.{length, length-append}
 use Rattle.meaning.specs.Following.{Rec}
 use Rattle.meaning.specs.Reasons.{Above, Reason}
 use Rattle.meaning.proofs.Laws.{reason-short}
-use Rattle.job.specs.Items.{Matter, Moment, Question, roomOf, Item, neededRoom}
+use Rattle.job_field.specs.Items.{Matter, Moment, Question, roomOf, Item, neededRoom}
 use Rattle.report.specs.Report.{numbers, Answers, led, because, apart, Totalled, total, Sound, totals, passed, answered}
 use Rattle.report.proofs.Bytes.{length-numbers, length-field}
 

@@ -5,7 +5,7 @@ use Prim.Native.Nat.{ℕ}
 use mathlib.Core.Path.{_≡_, refl}
 use mathlib.Core.List.{List}
 use Rattle.meaning.specs.Following.{Rec}
-use Rattle.job.specs.Items.{Head, Matter, Moment, Question, ask, explain, roomOf}
+use Rattle.job_field.specs.Items.{Head, Matter, Moment, Question, ask, explain, roomOf}
 use Rattle.report.specs.Report.{Answers, led, because, apart, Known, tabled, afterRecords}
 use Rattle.report.specs.Fault.{Stands, stands}
 

@@ -4,7 +4,7 @@
 use Prim.Native.Nat.{ℕ, _+_}
 use mathlib.Core.List.{List, [], _∷_, _++_}
 use lib.ListN.{length}
-use Rattle.job.specs.Items.{Matter, Note, Moment, after, Question, Item, noted, posed}
+use Rattle.job_field.specs.Items.{Matter, Note, Moment, after, Question, Item, noted, posed}
 use Rattle.report.specs.Report.{Answers, Totalled}
 
 -- A field that P calls right stands at the front of the bytes.

@@ -8,7 +8,7 @@ use lib.ListN.{length, take, drop}
 use Rattle.meaning.specs.Following.{Rec, Follows, UpTo, Leader}
 use Rattle.meaning.specs.Reasons.{Reason}
 use Rattle.meaning.specs.Totals.{Classes, Idles}
-use Rattle.job.specs.Items.{Matter, Note, Moment, after, Question, ask, explain, Item, noted, posed}
+use Rattle.job_field.specs.Items.{Matter, Note, Moment, after, Question, ask, explain, Item, noted, posed}
 
 -- All numbers are two bytes, high byte first.
 unfoldable pub two : ℕ → List ℕ

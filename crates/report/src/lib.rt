@@ -1,5 +1,5 @@
 // What a report is: its kinds, and in specs/ what its fields must say. The fields are written by report_write and read by report_read. Document 01,
-// "The job and the report". Rests on meaning and job.
+// "The job and the report". Rests on meaning and job_field.
 // The kinds of the report's table: 83, 84, 85 and 8F.
 pub const LED: u8 = 131;
 

@@ -15,7 +15,7 @@ use Rattle.meaning.specs.Reasons.{Reason}
 use Rattle.meaning.specs.Totals.{Classes, Idle, Idles}
 use Rattle.meaning.proofs.Decide.{label-leader, upTo-test, decUpTo, decLeader, decIdle, countIt}
 use Rattle.meaning.proofs.Laws.{reason-decided}
-use Rattle.job.specs.Items.{Matter, Moment, after, Question, ask, explain, Item, noted, posed}
+use Rattle.job_field.specs.Items.{Matter, Moment, after, Question, ask, explain, Item, noted, posed}
 use Rattle.report.specs.Report.{two, numbers, front, field, Answers, led, because, apart, Totalled, total, Sound, totals, passed, answered}
 use Rattle.report.specs.Fault.{Stands, stands, FaultAt, past, behind, wrong, closing, spare}
 use Rattle.report.proofs.Bytes.{two-of, length-numbers}

@@ -7,7 +7,7 @@ use mathlib.Core.Path.{_≡_, refl, sym, _∙_, ap, subst}
 use mathlib.Core.List.{List, [], _∷_, _++_, append-assoc}
 use lib.ListN.{length, take, drop, getD, length-append, length-drop, take-append-drop}
 use lib.Seq.{drop-cons, drop-drop, drop-append-seam, length-take-le}
-use Rattle.job.specs.Reading.{numberAt}
+use Rattle.job_field.specs.Reading.{numberAt}
 use Rattle.report.specs.Report.{two, numbers, front, field}
 use Rattle.report_read.specs.Read.{Holds, FrontAt, whole, none}
 use Rattle.report_read.specs.declared.Front.the-variants.{Field, Cut}

@@ -12,7 +12,7 @@ use Rattle.meaning.specs.Reasons.{Reason}
 use Rattle.meaning.specs.Totals.{Classes, Idles}
 use Rattle.meaning.proofs.Decide.{leader-one}
 use Rattle.meaning.proofs.Laws.{classes-one, idles-one, reason-follows}
-use Rattle.job.specs.Items.{Matter, Moment, after, Question, ask, explain, Item, posed}
+use Rattle.job_field.specs.Items.{Matter, Moment, after, Question, ask, explain, Item, posed}
 use Rattle.report.specs.Report.{numbers, field, Answers, led, because, apart, Totalled, total, Sound, totals, answered}
 use Rattle.report.specs.Fault.{Stands, stands, FaultAt, behind, spare}
 use Rattle.report_read.specs.Read.{Holds, FrontAt, whole, none}

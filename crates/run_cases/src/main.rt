@@ -1,11 +1,11 @@
 // The inspector's job and document 01's small cases before the run, and damaged reports before the recheck. A job is run with exactly the room that it
 // needs and one byte less; work table and room are dirty, and the table is of the named length or longer. A line is number, place, length, the report in
 // hex, and `ok` where table and room ended as they must. A line of a recheck is number, place and `ok` where they are the expected ones.
-// Rests on calls; no contract says what is written, the stored output does.
+// Rests on haltzurme_own; no contract says what is written, the stored output does.
 ghost use Prim.Native.Nat.{_≤_};
-use calls::recheck_report;
-use calls::run_job;
-use weighing::Finding;
+use call_rest::Finding;
+use haltzurme_own::recheck_report;
+use haltzurme_own::run_job;
 
 fn wide(x: u8) -> usize
     ensures { λ r. ⌜ r ≤ 255 ⌝ }

@@ -14,98 +14,99 @@ use lib.Seq.{getD-set-same, getD-set-other, getD-append-seam}
 use Rattle.meaning.specs.Joins.{put}
 use Rattle.meaning.proofs.Log.{put-hit, put-miss}
 use Rattle.table.specs.Map.{seen, chainIn, gather, Within}
+use Rattle.table.specs.Places.{MORE, OTHER, Part, Region, SHARES, USES, WAITS, columnSize, moreAt, useAt}
 
-module _ (at size : ℕ) (past : ℕ → ℕ) where
+module _ (r : Region) where
   -- Within its size a region is the table; past it, the rule.
-  pub seen-at : (w : List ℕ) (x : ℕ) → x < size → seen at size past w x ≡ getD w (at + x) 0
+  pub seen-at : (w : List ℕ) (x : ℕ) → x < r .size → seen r w x ≡ getD w (r .at + x) 0
   unfolding seen
-  seen-at w x l = rw (lt-ltb x size l)
+  seen-at w x l = rw (lt-ltb x (r .size) l)
 
-  pub seen-past : (w : List ℕ) (x : ℕ) → size ≤ x → seen at size past w x ≡ past x
+  pub seen-past : (w : List ℕ) (x : ℕ) → r .size ≤ x → seen r w x ≡ r .past x
   unfolding seen
-  seen-past w x l = rw (le-ltb x size l)
+  seen-past w x l = rw (le-ltb x (r .size) l)
 
   -- Two tables that agree in a region are one to whoever sees the region.
-  pub seen-same : (w w′ : List ℕ) → ((x : ℕ) → x < size → getD w′ (at + x) 0 ≡ getD w (at + x) 0) → seen at size past w′ ≡ seen at size past w
-  seen-same w w′ h = fun-ext (λ x. go x (decLt x size))
+  pub seen-same : (w w′ : List ℕ) → ((x : ℕ) → x < r .size → getD w′ (r .at + x) 0 ≡ getD w (r .at + x) 0) → seen r w′ ≡ seen r w
+  seen-same w w′ h = fun-ext (λ x. go x (decLt x (r .size)))
     where
-      go : (x : ℕ) → Dec (x < size) → seen at size past w′ x ≡ seen at size past w x
+      go : (x : ℕ) → Dec (x < r .size) → seen r w′ x ≡ seen r w x
       go x (yes l) = rw (seen-at w′ x l, seen-at w x l) (h x l)
       go x (no l) = rw (seen-past w′ x (omega arith), seen-past w x (omega arith))
 
   -- A store in the region changes one place of it; one elsewhere changes nothing of it.
-  pub seen-in : (w : List ℕ) (i v : ℕ) → i < size → at + i < length w → seen at size past (set w (at + i) v) ≡ put i v (seen at size past w)
-  seen-in w i v l h = fun-ext (λ x. go x (ℕ-discrete x i) (decLt x size))
+  pub seen-in : (w : List ℕ) (i v : ℕ) → i < r .size → r .at + i < length w → seen r (set w (r .at + i) v) ≡ put i v (seen r w)
+  seen-in w i v l h = fun-ext (λ x. go x (ℕ-discrete x i) (decLt x (r .size)))
     where
-      go : (x : ℕ) → Dec (x ≡ i) → Dec (x < size) → seen at size past (set w (at + i) v) x ≡ put i v (seen at size past w) x
-      go x (yes q) d = rw (q, put-hit i v (seen at size past w), seen-at (set w (at + i) v) i l) (getD-set-same w (at + i) v 0 h)
-      go x (no q) (yes d) = rw (put-miss i v (seen at size past w) x q, seen-at (set w (at + i) v) x d, seen-at w x d) (getD-set-other w (at + i) (at + x) v 0 (λ e. q (omega arith)))
-      go x (no q) (no d) = rw (put-miss i v (seen at size past w) x q, seen-past (set w (at + i) v) x (omega arith), seen-past w x (omega arith))
+      go : (x : ℕ) → Dec (x ≡ i) → Dec (x < r .size) → seen r (set w (r .at + i) v) x ≡ put i v (seen r w) x
+      go x (yes q) d = rw (q, put-hit i v (seen r w), seen-at (set w (r .at + i) v) i l) (getD-set-same w (r .at + i) v 0 h)
+      go x (no q) (yes d) = rw (put-miss i v (seen r w) x q, seen-at (set w (r .at + i) v) x d, seen-at w x d) (getD-set-other w (r .at + i) (r .at + x) v 0 (λ e. q (omega arith)))
+      go x (no q) (no d) = rw (put-miss i v (seen r w) x q, seen-past (set w (r .at + i) v) x (omega arith), seen-past w x (omega arith))
 
-  pub seen-out : (w : List ℕ) (j v : ℕ) → (j < at) ⊎ (at + size ≤ j) → seen at size past (set w j v) ≡ seen at size past w
-  seen-out w j v h = seen-same w (set w j v) (λ x l. getD-set-other w j (at + x) v 0 (other x l h))
+  pub seen-out : (w : List ℕ) (j v : ℕ) → (j < r .at) ⊎ (r .at + r .size ≤ j) → seen r (set w j v) ≡ seen r w
+  seen-out w j v h = seen-same w (set w j v) (λ x l. getD-set-other w j (r .at + x) v 0 (other x l h))
     where
-      other : (x : ℕ) → x < size → (j < at) ⊎ (at + size ≤ j) → at + x ≢ j
+      other : (x : ℕ) → x < r .size → (j < r .at) ⊎ (r .at + r .size ≤ j) → r .at + x ≢ j
       other x l (inl k) e = omega arith
       other x l (inr k) e = omega arith
 
   -- A region before or behind the frame is kept.
-  pub seen-within : {a e : ℕ} {w w′ : List ℕ} → Within a e w w′ → (at + size ≤ a) ⊎ (e ≤ at) → seen at size past w′ ≡ seen at size past w
-  seen-within {a} {e} {w} {w′} f h = seen-same w w′ (λ x l. f .same (at + x) (out x l h))
+  pub seen-within : {p : Part} {w w′ : List ℕ} → Within p w w′ → (r .at + r .size ≤ p .from) ⊎ (p .upto ≤ r .at) → seen r w′ ≡ seen r w
+  seen-within {p} {w} {w′} f h = seen-same w w′ (λ x l. f .same (r .at + x) (out x l h))
     where
-      out : (x : ℕ) → x < size → (at + size ≤ a) ⊎ (e ≤ at) → (at + x < a) ⊎ (e ≤ at + x)
+      out : (x : ℕ) → x < r .size → (r .at + r .size ≤ p .from) ⊎ (p .upto ≤ r .at) → (r .at + x < p .from) ⊎ (p .upto ≤ r .at + x)
       out x l (inl k) = inl (omega arith)
       out x l (inr k) = inr (omega arith)
 
 -- Frames.
-pub within-refl : {a e : ℕ} (w : List ℕ) → Within a e w w
+pub within-refl : {p : Part} (w : List ℕ) → Within p w w
 within-refl w = record { size = refl; same = λ i h. refl }
 
-pub within-trans : {a e : ℕ} {w w′ w″ : List ℕ} → Within a e w w′ → Within a e w′ w″ → Within a e w w″
+pub within-trans : {p : Part} {w w′ w″ : List ℕ} → Within p w w′ → Within p w′ w″ → Within p w w″
 within-trans f g = record { size = g .size ∙ f .size; same = λ i h. g .same i h ∙ f .same i h }
 
-pub within-wider : {a e : ℕ} (a′ e′ : ℕ) {w w′ : List ℕ} → a′ ≤ a → e ≤ e′ → Within a e w w′ → Within a′ e′ w w′
-within-wider {a} {e} a′ e′ l k f = record { size = f .size; same = λ i h. f .same i (out i h) }
+pub within-wider : {p : Part} (q : Part) {w w′ : List ℕ} → q .from ≤ p .from → p .upto ≤ q .upto → Within p w w′ → Within q w w′
+within-wider {p} q l k f = record { size = f .size; same = λ i h. f .same i (out i h) }
   where
-    out : (i : ℕ) → (i < a′) ⊎ (e′ ≤ i) → (i < a) ⊎ (e ≤ i)
+    out : (i : ℕ) → (i < q .from) ⊎ (q .upto ≤ i) → (i < p .from) ⊎ (p .upto ≤ i)
     out i (inl h) = inl (omega arith)
     out i (inr h) = inr (omega arith)
 
-pub within-set : (a e : ℕ) (w : List ℕ) (j v : ℕ) → a ≤ j → j < e → Within a e w (set w j v)
-within-set a e w j v l k = record { size = length-set w j v; same = λ i h. getD-set-other w j i v 0 (other i h) }
+pub within-set : (p : Part) (w : List ℕ) (j v : ℕ) → p .from ≤ j → j < p .upto → Within p w (set w j v)
+within-set p w j v l k = record { size = length-set w j v; same = λ i h. getD-set-other w j i v 0 (other i h) }
   where
-    other : (i : ℕ) → (i < a) ⊎ (e ≤ i) → i ≢ j
+    other : (i : ℕ) → (i < p .from) ⊎ (p .upto ≤ i) → i ≢ j
     other i (inl h) q = omega arith
     other i (inr h) q = omega arith
 
 -- Where the lists of uses stand.
-pub uses-least : (b : Bool) → 30764 ≤ cond b 31764 30764
+pub uses-least : (b : Bool) → USES .at ≤ useAt b
 uses-least true = omega arith
 uses-least false = omega arith
 
-pub uses-most : (b : Bool) → cond b 31764 30764 ≤ 31764
+pub uses-most : (b : Bool) → useAt b ≤ SHARES .at
 uses-most true = omega arith
 uses-most false = omega arith
 
-pub mores-least : (b : Bool) → 17003 ≤ cond b 22003 17003
+pub mores-least : (b : Bool) → MORE .at ≤ moreAt b
 mores-least true = omega arith
 mores-least false = omega arith
 
-pub mores-most : (b : Bool) → cond b 22003 17003 ≤ 22003
+pub mores-most : (b : Bool) → moreAt b ≤ OTHER .at
 mores-most true = omega arith
 mores-most false = omega arith
 
 -- A number up to 4,001 is that of a chain; a larger one is that of a place that waits.
-pub chain-low : (v : ℕ) → v ≤ 4001 → chainIn v ≡ v
-chain-low v l = rw (le-leb v 4001 l)
+pub chain-low : (v : ℕ) → v ≤ columnSize → chainIn v ≡ v
+chain-low v l = rw (le-leb v columnSize l)
 
-pub chain-high : (v : ℕ) → 4002 ≤ v → chainIn v ≡ 0
-chain-high v l = rw (lt-leb v 4001 l)
+pub chain-high : (v : ℕ) → WAITS ≤ v → chainIn v ≡ 0
+chain-high v l = rw (lt-leb v columnSize l)
 
-pub waits-is : (v : ℕ) → 0 < v → leb 4002 v ≡ eqb (chainIn v) 0
-waits-is v l = elim (decLt v 4002) [
-  | yes k ↦ lt-leb 4002 v k ∙ sym (ne-eqb (chainIn v) 0 (λ e. let z = chain-low v (omega arith) in omega arith))
-  | no k ↦ le-leb 4002 v (omega arith) ∙ sym (eq-eqb (chainIn v) 0 (chain-high v (omega arith)))
+pub waits-is : (v : ℕ) → 0 < v → leb WAITS v ≡ eqb (chainIn v) 0
+waits-is v l = elim (decLt v WAITS) [
+  | yes k ↦ lt-leb WAITS v k ∙ sym (ne-eqb (chainIn v) 0 (λ e. let z = chain-low v (omega arith) in omega arith))
+  | no k ↦ le-leb WAITS v (omega arith) ∙ sym (eq-eqb (chainIn v) 0 (chain-high v (omega arith)))
 ]
 
 -- Gathered lists.

@@ -7,16 +7,17 @@ use mathlib.Core.Logic.{inl}
 use mathlib.Core.List.{List}
 use Rattle.table.specs.Map.{leftOf, rightOf, resultOf, recordsIn, Loaded, Within}
 use Rattle.table.proofs.Frame.{seen-within}
+use Rattle.table.specs.Places.{LEFT, PARENT, RESULT, RIGHT, fromTo}
 
-module _ {end : ℕ} {w w′ : List ℕ} (f : Within 12003 end w w′) where
+module _ {end : ℕ} {w w′ : List ℕ} (f : Within (fromTo (PARENT .at) end) w w′) where
   pub lefts : leftOf w′ ≡ leftOf w
-  lefts = seen-within 0 4001 (λ x. 0) f (inl (omega arith))
+  lefts = seen-within LEFT f (inl (omega arith))
 
   pub rights : rightOf w′ ≡ rightOf w
-  rights = seen-within 4001 4001 (λ x. 0) f (inl (omega arith))
+  rights = seen-within RIGHT f (inl (omega arith))
 
   pub results : resultOf w′ ≡ resultOf w
-  results = seen-within 8002 4001 (λ x. 0) f (inl (omega arith))
+  results = seen-within RESULT f (inl (omega arith))
 
   pub loaded-same : {N len : ℕ} → Loaded N len w → Loaded N len w′
   loaded-same h = record { long = omega (arith, h .long, f .size); some = h .some; few = h .few; most = h .most; small = rw (lefts, rights, results) (h .small) }

@@ -11,85 +11,87 @@ use lib.ListN.{length, getD}
 use Rattle.meaning.specs.Following.{Rec, eq, app}
 use Rattle.meaning.specs.Joins.{Join, by, cong}
 use Rattle.meaning.proofs.Reference.{Small}
+use Rattle.meaning.specs.Limits.{mostRecords, mostTags}
+use Rattle.table.specs.Places.{AGE, BUCKETS, CHAIN, EQUATION, FIRST, HEADS, LABEL, LEFT, LIST, Large, MARKS, NEXT, PARENT, Part, RESULT, RIGHT, Region, SAVED, SECOND, WAITS, WHEN, columnSize, moreAt, plain, useAt}
 
--- A region that begins at `at` and has `size` places; what lies past its end is given by a rule, so that laws need no bound.
-unfoldable pub seen : ℕ → ℕ → (ℕ → ℕ) → List ℕ → ℕ → ℕ
-seen at size past w x = cond (ltb x size) (getD w (at + x) 0) (past x)
+-- A region as a function from its own numbers.
+unfoldable pub seen : Region → List ℕ → ℕ → ℕ
+seen r w x = cond (ltb x (r .size)) (getD w (r .at + x) 0) (r .past x)
 
 -- By record number: the tags of the record. A result of 65,535, which is no tag, marks an equation.
 abbrev pub leftOf : List ℕ → ℕ → ℕ
-leftOf w = seen 0 4001 (λ x. 0) w
+leftOf w = seen LEFT w
 
 abbrev pub rightOf : List ℕ → ℕ → ℕ
-rightOf w = seen 4001 4001 (λ x. 0) w
+rightOf w = seen RIGHT w
 
 abbrev pub resultOf : List ℕ → ℕ → ℕ
-resultOf w = seen 8002 4001 (λ x. 0) w
+resultOf w = seen RESULT w
 
 -- By tag: the tag it was linked under, and the age of the join that did so (1,000 where it leads its class).
 abbrev pub parentOf : List ℕ → ℕ → ℕ
-parentOf w = seen 12003 1000 (λ x. x) w
+parentOf w = seen PARENT w
 
 abbrev pub ageOf : List ℕ → ℕ → ℕ
-ageOf w = seen 13003 1000 (λ x. 1000) w
+ageOf w = seen AGE w
 
 -- By age: the join's first record, its second (0 for the join of an equation), and the record at which it was made.
 abbrev pub firstOf : List ℕ → ℕ → ℕ
-firstOf w = seen 14003 1000 (λ x. 0) w
+firstOf w = seen FIRST w
 
 abbrev pub secondOf : List ℕ → ℕ → ℕ
-secondOf w = seen 15003 1000 (λ x. 0) w
+secondOf w = seen SECOND w
 
 abbrev pub whenOf : List ℕ → ℕ → ℕ
-whenOf w = seen 16003 1000 (λ x. 0) w
+whenOf w = seen WHEN w
 
 -- By place in the list: a record number.
 abbrev pub listOf : List ℕ → ℕ → ℕ
-listOf w = seen 17003 4000 (λ x. 0) w
+listOf w = seen LIST w
 
 -- Scratch of the closure. By tag: the label. By place in the list: one more than the next place of the chain, or 0. By bucket:
 -- one more than the first place of the chain, or 0.
 abbrev pub labelOf : List ℕ → ℕ → ℕ
-labelOf w = seen 21003 1000 (λ x. x) w
+labelOf w = seen LABEL w
 
 abbrev pub nextOf : List ℕ → ℕ → ℕ
-nextOf w = seen 22003 4000 (λ x. 0) w
+nextOf w = seen NEXT w
 
 abbrev pub headOf : List ℕ → ℕ → ℕ
-headOf w = seen 26003 4093 (λ x. 0) w
+headOf w = seen HEADS w
 
 -- By age: 1 where the join was taken into a reason.
 abbrev pub markOf : List ℕ → ℕ → ℕ
-markOf w = seen 30096 1000 (λ x. 0) w
+markOf w = seen MARKS w
 
 -- By tag: a label that was saved.
 abbrev pub savedOf : List ℕ → ℕ → ℕ
-savedOf w = seen 31096 1000 (λ x. x) w
+savedOf w = seen SAVED w
 
 -- While all records are closed, from the list on. By tag: one more than the last place whose record has it for its first argument (for its second, where `second` says so), or 0; by place:
 -- the same of the places before it, for the same tag.
 abbrev pub useOf : Bool → List ℕ → ℕ → ℕ
-useOf second w = seen (cond second 31764 30764) 1000 (λ x. 0) w
+useOf second w = seen (plain (useAt second) mostTags) w
 
 abbrev pub moreOf : Bool → List ℕ → ℕ → ℕ
-moreOf second w = seen (cond second 22003 17003) 4000 (λ x. 0) w
+moreOf second w = seen (plain (moreAt second) mostRecords) w
 
 -- By place: up to 4,001, one more than the link of its chain; above, 4,002 more than the link of the list of those that wait. A place that waits stands in no chain.
 abbrev pub stateOf : List ℕ → ℕ → ℕ
-stateOf w = seen 26003 4000 (λ x. 0) w
+stateOf w = seen CHAIN w
 
 abbrev pub chainIn : ℕ → ℕ
-chainIn v = cond (leb v 4001) v 0
+chainIn v = cond (leb v columnSize) v 0
 
 abbrev pub chainOf : List ℕ → ℕ → ℕ
 chainOf w r = chainIn (stateOf w r)
 
 abbrev pub waitOf : List ℕ → ℕ → ℕ
-waitOf w r = stateOf w r - 4002
+waitOf w r = stateOf w r - WAITS
 
 -- By bucket: one more than the first place of the chain, or 0.
 abbrev pub bucketOf : List ℕ → ℕ → ℕ
-bucketOf w = seen 30003 761 (λ x. 0) w
+bucketOf w = seen BUCKETS w
 
 -- The first n values of f, in order.
 abbrev pub gather : {A : Type 0} → (ℕ → A) → ℕ → List A
@@ -98,7 +100,7 @@ gather f (suc n) = gather f n ++ (f n ∷ [])
 
 -- The record of number k, records 1 to n, and the first n numbers of the list.
 abbrev pub recAt : List ℕ → ℕ → Rec
-recAt w k = cond (eqb (resultOf w k) 65535) (eq (leftOf w k) (rightOf w k)) (app (leftOf w k) (rightOf w k) (resultOf w k))
+recAt w k = cond (eqb (resultOf w k) EQUATION) (eq (leftOf w k) (rightOf w k)) (app (leftOf w k) (rightOf w k) (resultOf w k))
 
 abbrev pub recordsIn : ℕ → List ℕ → List Rec
 recordsIn n w = gather (λ k. recAt w (suc k)) n
@@ -115,13 +117,13 @@ joinAt w a = joinBy w (firstOf w a) (secondOf w a)
 
 -- The table holds N tags' records 1 to len in its columns.
 pub record Loaded (N len : ℕ) (w : List ℕ) : Type 0 where
-  pub long : 32768 ≤ length w
+  pub long : Large w
   pub some : 1 ≤ N
-  pub few : N ≤ 1000
-  pub most : len ≤ 4000
+  pub few : N ≤ mostTags
+  pub most : len ≤ mostRecords
   pub small : (k : ℕ) → k < len → Small N (recAt w (suc k))
 
--- From w to w′ nothing changed but numbers from a up to e.
-pub record Within (a e : ℕ) (w w′ : List ℕ) : Type 0 where
+-- From w to w′ nothing changed but what stands in a part.
+pub record Within (p : Part) (w w′ : List ℕ) : Type 0 where
   pub size : length w′ ≡ length w
-  pub same : (i : ℕ) → (i < a) ⊎ (e ≤ i) → getD w′ i 0 ≡ getD w i 0
+  pub same : (i : ℕ) → (i < p .from) ⊎ (p .upto ≤ i) → getD w′ i 0 ≡ getD w i 0

@@ -6,6 +6,7 @@ use lib.Dec.{leb}
 use Rattle.meaning.specs.Joins.{Justified, count}
 use Rattle.meaning.specs.Forest.{root, History}
 use Rattle.meaning.proofs.Exact.{Settled}
+use Rattle.meaning.specs.Limits.{mostTags}
 use Rattle.table.specs.Map.{parentOf, ageOf, whenOf, joinAt, recordsIn, Loaded}
 
 -- How many of the n joins had been made once record k was in.
@@ -22,7 +23,7 @@ leaderAfter w n k x = root (parentOf w) (ageOf w) (ageAfter w n k) x
 pub record Past (N len : ℕ) (w : List ℕ) (n : ℕ) : Type 0 where
   pub loaded : Loaded N len w
   pub low : n < N
-  pub history : History (joinAt w) n (parentOf w) (ageOf w) 1000
+  pub history : History (joinAt w) n (parentOf w) (ageOf w) mostTags
   pub justified : Justified (recordsIn len w) (joinAt w) n
   pub made : (a : ℕ) → a < n → (1 ≤ whenOf w a) × (whenOf w a ≤ len)
   pub order : (a b : ℕ) → a ≤ b → b < n → whenOf w a ≤ whenOf w b

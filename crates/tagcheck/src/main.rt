@@ -1,14 +1,14 @@
 // tagcheck: reads a job from standard input and writes its answers, one line an item, or the line of its refusal. Document 01, "The program".
-// It only reads, calls and writes: the run is haltzurme's, through calls; the text is tell's. Rests on these and on console.
-use calls::run_job;
+// It only reads, calls and writes: the run is haltzurme's, through haltzurme_own; the words are text's. Rests on these and on console.
 use console::Got;
 use console::read_input;
 use console::write_error;
 use console::write_output_front;
-use lines::Told;
-use tell::tell_answer;
+use haltzurme_own::run_job;
+use text::Told;
+use text::tell_answer;
 
-// A text that is whole goes to standard output. Full is never answered here: 60,000 bytes of room and 206,014 of text are what tell's contract
+// A text that is whole goes to standard output. Full is never answered here: 60,000 bytes of room and 206,014 of text are what text's contract
 // asks for that.
 fn write(text: &[u8], told: Told) {
     match told {

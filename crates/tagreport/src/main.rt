@@ -1,14 +1,14 @@
 // tagreport: reads a job from standard input and writes its report's raw bytes; on a refusal the line `R number place` goes to standard error and
 // nothing to standard output. It only reads, calls and writes: the run is haltzurme's,
-// through calls. Rests on that, on lines and on console.
-use calls::run_job;
+// through haltzurme_own. Rests on that, on text and on console.
 use console::Got;
 use console::read_input;
 use console::write_error;
 use console::write_error_front;
 use console::write_output_front;
-use lines::Told;
-use lines::tell_refusal;
+use haltzurme_own::run_job;
+use text::Told;
+use text::tell_refusal;
 
 // The line of a refusal goes to standard error; 60 bytes hold the longest.
 fn refuse(number: u8, place: usize) {

@@ -1,8 +1,8 @@
 -- `job_read::advance` meets its contract: each arm has what the field said, and the laws of reading say what that leads to.
 -- Assumes nothing.
-use Rattle.job.specs.Reading.{checked, end}
-use Rattle.job.specs.Answer.{said}
-use Rattle.limits.specs.Counts.{momentOf}
+use Rattle.job_field.specs.Reading.{checked, end}
+use Rattle.job_field.specs.Answer.{said}
+use Rattle.job_limits.specs.Counts.{momentOf}
 use Rattle.job_read.specs.Turns.{headSeen}
 use Rattle.job_read.proofs.Turning.{there, done-bad, done-end, on-header, on-note, on-question}
 use borrow.Author.Needs.{needs}

@@ -1,6 +1,6 @@
 -- `job_read::ended` meets its contract: a byte stands behind the end field or not, as `behind` has it.
 -- Assumes nothing.
-use Rattle.job.specs.Reading.{behindAt}
+use Rattle.job_field.specs.Reading.{behindAt}
 use borrow.Author.Tests.{le-leb, lt-leb}
 use Rattle.job_read.proofs.Turning.{plus-none}
 use borrow.Author.Needs.{needs}

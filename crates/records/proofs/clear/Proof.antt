@@ -47,6 +47,7 @@ use Rattle.records.specs.Table.{blank}
 use Rattle.records.proofs.Rows.{after, R, val, vals, tells, typed, blank-is, big-lit}
 use Rattle.records.proofs.Cleared.{cleared, cleared-none, length-cleared, clears-one, cleared-blanked}
 use Rattle.meaning.proofs.Tag.Laws as G′
+use Rattle.meaning.specs.Limits.{namedPlaces}
 use Rattle.records.proofs.Record as T
 use Rattle.records.proofs.Record.Laws as T′
 use Rattle.records.proofs.clear.Key.{name as #records·clear}
@@ -60,7 +61,7 @@ more = after (after m.turn-1)
 
 -- the named places
 abbrev n : ℕ
-n = 4000
+n = namedPlaces
 
 abbrev word : Ty
 word = tyInt w64

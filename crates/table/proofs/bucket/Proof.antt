@@ -11,6 +11,7 @@ use Rattle.table.proofs.bucket.Reads as reads
 use Rattle.table.proofs.bucket.Lts as lts
 use Rattle.table.proofs.cell.Reads as cell-reads
 use Rattle.table.proofs.wide.Reads as wide-reads
+use Rattle.table.specs.Places.{BUCKETS}
 
 cell-requires : tie.Need-cell-requires
 cell-requires c κs = search needs
@@ -19,7 +20,7 @@ wide-requires : tie.Need-wide-requires
 wide-requires c κs = search needs
 
 returns : tie.Need-returns
-returns c = c .wide .ensures ∙ c .before .cell .ensures ∙ sym (seen-at 30003 761 (λ x. 0) (now (c .before .before .before .args .work)) (c .before .before .before .args .b) (omega (arith, c .before .before .before .pre)))
+returns c = c .wide .ensures ∙ c .before .cell .ensures ∙ sym (seen-at BUCKETS (now (c .before .before .before .args .work)) (c .before .before .before .args .b) (omega (arith, c .before .before .before .pre)))
 
 pub bucket-spec : {M : Type 1} → statement M
 bucket-spec = tie.close (tie.spec cell-requires wide-requires returns)

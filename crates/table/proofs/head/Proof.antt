@@ -11,6 +11,7 @@ use Rattle.table.proofs.head.Reads as reads
 use Rattle.table.proofs.head.Lts as lts
 use Rattle.table.proofs.cell.Reads as cell-reads
 use Rattle.table.proofs.wide.Reads as wide-reads
+use Rattle.table.specs.Places.{HEADS}
 
 cell-requires : tie.Need-cell-requires
 cell-requires c κs = search needs
@@ -19,7 +20,7 @@ wide-requires : tie.Need-wide-requires
 wide-requires c κs = search needs
 
 returns : tie.Need-returns
-returns c = c .wide .ensures ∙ c .before .cell .ensures ∙ sym (seen-at 26003 4093 (λ x. 0) (now (c .before .before .before .args .work)) (c .before .before .before .args .i) (omega (arith, c .before .before .before .pre)))
+returns c = c .wide .ensures ∙ c .before .cell .ensures ∙ sym (seen-at HEADS (now (c .before .before .before .args .work)) (c .before .before .before .args .i) (omega (arith, c .before .before .before .pre)))
 
 pub head-spec : {M : Type 1} → statement M
 head-spec = tie.close (tie.spec cell-requires wide-requires returns)

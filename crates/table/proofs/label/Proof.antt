@@ -13,6 +13,7 @@ use Rattle.table.proofs.label.Reads as reads
 use Rattle.table.proofs.label.Lts as lts
 use Rattle.table.proofs.cell.Reads as cell-reads
 use Rattle.table.proofs.wide.Reads as wide-reads
+use Rattle.table.specs.Places.{LABEL}
 
 wide-requires : tie.Need-wide-requires
 wide-requires c κs = search needs
@@ -21,7 +22,7 @@ cell-requires : tie.Need-cell-requires
 cell-requires c κs = search needs
 
 returns : tie.Need-returns
-returns c = c .cell .ensures ∙ ap (λ (k : ℕ). getD (now (c .before .before .before .args .work)) (21003 + k) 0) (c .before .wide .ensures) ∙ sym (seen-at 21003 1000 (λ x. x) (now (c .before .before .before .args .work)) (c .before .before .before .args .x .0) (omega (arith, c .before .before .before .pre)))
+returns c = c .cell .ensures ∙ ap (λ (k : ℕ). getD (now (c .before .before .before .args .work)) (LABEL .at + k) 0) (c .before .wide .ensures) ∙ sym (seen-at LABEL (now (c .before .before .before .args .work)) (c .before .before .before .args .x .0) (omega (arith, c .before .before .before .pre)))
 
 pub label-spec : {M : Type 1} → statement M
 label-spec = tie.close (tie.spec wide-requires cell-requires returns)

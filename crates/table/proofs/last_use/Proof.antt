@@ -5,6 +5,7 @@ use mathlib.Core.Path.{sym, _∙_}
 use native.Mathlib.Omega.{arith}
 use mathlib.Core.Bool.{cond}
 use denote.Ref.{now}
+use Rattle.meaning.specs.Limits.{mostTags}
 use Rattle.table.proofs.Frame.{seen-at, uses-most}
 use Rattle.table.proofs.last_use.Statement.{statement}
 use Rattle.table.proofs.last_use.Tie as tie
@@ -13,6 +14,7 @@ use Rattle.table.proofs.last_use.Lts as lts
 use Rattle.table.proofs.cell.Reads as cell-reads
 use Rattle.table.proofs.uses.Reads as uses-reads
 use Rattle.table.proofs.wide.Reads as wide-reads
+use Rattle.table.specs.Places.{plain, useAt}
 
 wide-requires : tie.Need-wide-requires
 wide-requires c κs = search needs
@@ -29,7 +31,7 @@ wide-requires-2 c κs = search needs
 returns : tie.Need-returns
 returns c =
     let s = c .before .before .before .before .before in
-    c .wide2 .ensures ∙ c .before .cell .ensures ∙ rw (c .before .before .uses .ensures, c .before .before .before .wide .ensures) (sym (seen-at (cond (s .args .second) 31764 30764) 1000 (λ x. 0) (now (s .args .work)) (s .args .x .0) (omega (arith, s .pre))))
+    c .wide2 .ensures ∙ c .before .cell .ensures ∙ rw (c .before .before .uses .ensures, c .before .before .before .wide .ensures) (sym (seen-at (plain (useAt (s .args .second)) mostTags) (now (s .args .work)) (s .args .x .0) (omega (arith, s .pre))))
 
 pub last-use-spec : {M : Type 1} → statement M
 last-use-spec =

@@ -11,6 +11,7 @@ use Rattle.table.proofs.next.Reads as reads
 use Rattle.table.proofs.next.Lts as lts
 use Rattle.table.proofs.cell.Reads as cell-reads
 use Rattle.table.proofs.wide.Reads as wide-reads
+use Rattle.table.specs.Places.{NEXT}
 
 cell-requires : tie.Need-cell-requires
 cell-requires c κs = search needs
@@ -19,7 +20,7 @@ wide-requires : tie.Need-wide-requires
 wide-requires c κs = search needs
 
 returns : tie.Need-returns
-returns c = c .wide .ensures ∙ c .before .cell .ensures ∙ sym (seen-at 22003 4000 (λ x. 0) (now (c .before .before .before .args .work)) (c .before .before .before .args .i) (omega (arith, c .before .before .before .pre)))
+returns c = c .wide .ensures ∙ c .before .cell .ensures ∙ sym (seen-at NEXT (now (c .before .before .before .args .work)) (c .before .before .before .args .i) (omega (arith, c .before .before .before .pre)))
 
 pub next-spec : {M : Type 1} → statement M
 next-spec = tie.close (tie.spec cell-requires wide-requires returns)

@@ -7,6 +7,7 @@ use Rattle.table.proofs.put_link.Reads as reads
 use Rattle.table.proofs.put_link.Lts as lts
 use Rattle.table.proofs.store.Reads as store-reads
 use Rattle.table.proofs.wide.Reads as wide-reads
+use Rattle.table.specs.Places.{AGE, PARENT}
 use mathlib.Core.Path.{ap, _∙_}
 use mathlib.Core.List.{List}
 use Prim.Native.Nat.{ℕ, _+_}
@@ -29,7 +30,7 @@ same-length : tie.Need-same-length
 same-length c = search needs
 
 returns : tie.Need-returns
-returns c = c .before .before .store2 .ensures ∙ ap (λ (l : List ℕ). set l (13003 + c .before .before .before .before .before .before .before .before .wide .result) (c .before .before .before .before .before .before .before .before .before .before .args .i)) (c .before .before .before .before .before .before .store .ensures) ∙ ap (λ (k : ℕ). set (set (now (c .before .before .before .before .before .before .before .before .before .before .args .work)) (12003 + k) (c .before .before .before .before .before .before .before .before .before .before .args .under .0)) (13003 + k) (c .before .before .before .before .before .before .before .before .before .before .args .i)) (c .before .before .before .before .before .before .before .before .wide .ensures)
+returns c = c .before .before .store2 .ensures ∙ ap (λ (l : List ℕ). set l (AGE .at + c .before .before .before .before .before .before .before .before .wide .result) (c .before .before .before .before .before .before .before .before .before .before .args .i)) (c .before .before .before .before .before .before .store .ensures) ∙ ap (λ (k : ℕ). set (set (now (c .before .before .before .before .before .before .before .before .before .before .args .work)) (PARENT .at + k) (c .before .before .before .before .before .before .before .before .before .before .args .under .0)) (AGE .at + k) (c .before .before .before .before .before .before .before .before .before .before .args .i)) (c .before .before .before .before .before .before .before .before .wide .ensures)
 
 pub put-link-spec : {M : Type 1} → statement M
 put-link-spec =

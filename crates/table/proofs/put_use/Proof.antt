@@ -14,6 +14,7 @@ use Rattle.table.proofs.store.Reads as store-reads
 use Rattle.table.proofs.uses.Reads as uses-reads
 use Rattle.table.proofs.mores.Reads as mores-reads
 use Rattle.table.proofs.wide.Reads as wide-reads
+use Rattle.table.specs.Places.{Large}
 
 wide-requires : tie.Need-wide-requires
 wide-requires c κs = search needs
@@ -37,7 +38,7 @@ cast-store-2 : tie.Need-cast-store-2
 cast-store-2 c = search needs
 
 -- The table is as long after the first store.
-long : (b : tie.After-store) → 32768 ≤ length (b .store .last .0)
+long : (b : tie.After-store) → Large (b .store .last .0)
 long b = let s = b .before .before .before .before .before in rw (b .store .ensures, length-set) (s .pre .0)
 
 store-requires-2 : tie.Need-store-requires-2

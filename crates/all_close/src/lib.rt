@@ -1,0 +1,124 @@
+// All records of a job are closed, one after the other, and every join is kept. Document 01, "Tags, records, following", "Reasons" and "Idle records"; the closure of source document 002, with its
+// lists of uses. Rests on meaning (what follows, the log of joins, the forest of links), table (where things stand), table_labels (labels, keys), all_index (filed applications, and those that wait), all_join (joins)
+// and all_settle (what waits is met).
+//
+// A tag's label is a tag of its class, and at first each tag is its own. A record comes in: an equation joins its two tags, an application goes into its arguments' lists and waits. Those that wait
+// are met, one after the other, until none does; then all records so far hold, and the next comes in.
+ghost use mathlib.Core.Path.{_≡_};
+ghost use mathlib.Core.Bool.{true, false};
+ghost use Prim.Native.Nat.{suc, _≤_, _<_};
+ghost use lib.ListN.{length};
+ghost use Rattle.table.specs.Map.{Loaded, Within};
+ghost use Rattle.table.specs.Places.{Large, behindColumns};
+ghost use Rattle.all_index.specs.State.{eqnAt};
+ghost use Rattle.all_settle.specs.State.{Open};
+ghost use Rattle.all_close.specs.Closing.{Closing};
+ghost use Rattle.all_close.specs.State.{Between, Coming, Admitted, Unlinked, Begun};
+use all_index::Front;
+use all_settle::Progress;
+use meaning::RecordNo;
+use meaning::Tag;
+
+// What a run of the closure made: its joins, and the records that made none.
+pub struct Totals {
+    pub joins: usize,
+    pub idle: usize,
+}
+
+// The application at place i comes in: it waits, and its arguments' lists know it.
+fn enter(work: &mut [u16], front: Front, i: usize, joins: usize)
+    requires { ⌜ Coming front (now work) i joins × (eqnAt (now work) i ≡ false) ⌝ }
+    ensures { λ _. ⌜ Within behindColumns (now (work .entry)) (now (work .exit)) × Open front (now (work .exit)) joins (suc i) ⌝ }
+{
+    let r = all_index::number(i);
+    let a = table::left(work, r);
+    let b = table::right(work, r);
+    let p = table::last_use(work, false, a);
+    table::put_use(work, false, a, i, p);
+    let q = table::last_use(work, true, b);
+    table::put_use(work, true, b, i, q);
+    table::put_wait(work, i, 0);
+}
+
+// The equation at place i comes in: its two tags are joined unless they have one label. Both labels are read as one number.
+fn equate(work: &mut [u16], front: Front, i: usize, joins: usize) -> Progress
+    requires { ⌜ Coming front (now work) i joins × (eqnAt (now work) i ≡ true) ⌝ }
+    ensures { λ r. ⌜ Within behindColumns (now (work .entry)) (now (work .exit)) × Open front (now (work .exit)) (r .joins) (r .first) × (joins ≤ r .joins) ⌝ }
+{
+    let r = all_index::number(i);
+    table::put_chain(work, i, 0);
+    let x = table_labels::key(work, r);
+    let a = Tag((x / 65536) as u16);
+    let b = Tag((x % 65536) as u16);
+    if a.0 == b.0 {
+        return Progress {
+            joins: joins,
+            first: 0,
+        };
+    }
+    let first = all_join::join(work, front, joins, 0, r, RecordNo(0), a, b);
+    Progress {
+        joins: joins + 1,
+        first: first,
+    }
+}
+
+// Record number i + 1 comes in, where all records before it hold. The number of joins after it.
+fn admit(work: &mut [u16], size: usize, len: usize, i: usize, joins: usize) -> usize
+    requires { ⌜ Between size len i (now work) joins × (i < len) ⌝ }
+    ensures { λ r. ⌜ Admitted size len i (now (work .entry)) joins (now (work .exit)) r ⌝ }
+{
+    let front = Front {
+        size: size,
+        len: len,
+        places: i + 1,
+    };
+    if table::is_equation(work, all_index::number(i)) {
+        let p = equate(work, front, i, joins);
+        return all_settle::settle(work, front, p.joins, p.first);
+    }
+    enter(work, front, i, joins);
+    all_settle::settle(work, front, joins, i + 1)
+}
+
+// No tag is linked.
+fn unlink(work: &mut [u16])
+    requires { ⌜ Large (now work) ⌝ }
+    ensures { λ _. ⌜ Unlinked (now (work .entry)) (now (work .exit)) ⌝ }
+{
+    table_labels::fill(&mut work[table::AGE..table::FIRST], table::LEADS);
+}
+
+// The work begins: no tag linked, each its own label, no chains and no uses.
+fn begin(work: &mut [u16])
+    requires { ⌜ Large (now work) ⌝ }
+    ensures { λ _. ⌜ Begun (now (work .entry)) (now (work .exit)) ⌝ }
+{
+    unlink(work);
+    table_labels::count_up(&mut work[table::PARENT..table::AGE]);
+    table_labels::fresh(work);
+    table_labels::fill(&mut work[table::CHAIN..table::NAMED], 0);
+}
+
+// Closes records 1 to len of `size` tags, one after the other, and keeps the joins.
+pub fn close(work: &mut [u16], size: usize, len: usize) -> Totals
+    requires { ⌜ Loaded size len (now work) ⌝ }
+    ensures { λ r. ⌜ Closing size len (now (work .entry)) (now (work .exit)) (r .joins) (r .idle) ⌝ }
+{
+    begin(work);
+    let mut joins = 0;
+    let mut idle = 0;
+    let mut i = 0;
+    while i < len {
+        let after = admit(work, size, len, i, joins);
+        if after == joins {
+            idle += 1;
+        }
+        joins = after;
+        i += 1;
+    }
+    Totals {
+        joins: joins,
+        idle: idle,
+    }
+}

@@ -1,0 +1,52 @@
+-- `answer_all::answer_question` meets its contract, question by question.
+-- Assumes nothing.
+use Rattle.job_field.specs.Answer.{questionSaid}
+use borrow.Author.Needs.{needs}
+use Rattle.answer_all.proofs.answer_question.Statement.{statement}
+use Rattle.answer_all.proofs.answer_question.Tie as tie
+use mathlib.Core.Path.{ap}
+
+enum-known-q : tie.Need-enum-known-q
+enum-known-q c = search needs
+
+answer-ask-requires : tie.Need-answer-ask-requires
+answer-ask-requires c κs = rw (ap questionSaid (c .before .before .before .q .given .1)) at (c .before .before .before .before .before .before .before .pre)
+
+enum-known-q-2 : tie.Need-enum-known-q-2
+enum-known-q-2 c = search needs
+
+answer-explain-requires : tie.Need-answer-explain-requires
+answer-explain-requires c κs = rw (ap questionSaid (c .before .before .before .q2 .given .1)) at (c .before .before .before .before .before .before .before .pre)
+
+same-length : tie.Need-same-length
+same-length c = search needs
+
+same-length-2 : tie.Need-same-length-2
+same-length-2 c = search needs
+
+returns : tie.Need-returns
+returns c = rw (ap questionSaid (c .before .before .before .before .before .before .q .given .1)) (c .before .before .answer-ask .ensures)
+
+same-length-3 : tie.Need-same-length-3
+same-length-3 c = search needs
+
+same-length-4 : tie.Need-same-length-4
+same-length-4 c = search needs
+
+returns-2 : tie.Need-returns-2
+returns-2 c = rw (ap questionSaid (c .before .before .before .before .before .before .before .before .q2 .given .1)) (c .before .before .before .before .answer-explain .ensures)
+
+pub answer-question-spec : {M : Type 1} → statement M
+answer-question-spec =
+    tie.close
+    (tie.spec
+    enum-known-q
+    answer-ask-requires
+    enum-known-q-2
+    answer-explain-requires
+    same-length
+    same-length-2
+    returns
+    same-length-3
+    same-length-4
+    returns-2)

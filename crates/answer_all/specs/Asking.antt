@@ -1,0 +1,89 @@
+-- Answering the questions of an accepted job, each by the records before it. Document 01, "The job and the report".
+-- Assumes nothing.
+use Prim.Native.Nat.{ℕ, _+_, _≤_, _<_}
+use mathlib.Core.Path.{_≡_}
+use mathlib.Core.Bool.{Bool, true, false}
+use mathlib.Core.List.{List, [], _++_}
+use lib.ListN.{length, drop}
+use Rattle.job_field.specs.Items.{Note, standsFor, Moment, start, Question, Item, noted, posed, recordsOf, neededRoom}
+use Rattle.job_field.specs.Reading.{Field, bad, header, item, end, headIn, itemsIn, matterIn, longest}
+use Rattle.job_field.specs.Standing.{Stands, Job}
+use Rattle.table.specs.Map.{recordsIn, Loaded, Within}
+use Rattle.table.specs.Past.{Past}
+use Rattle.table.specs.Places.{behindColumns, scratch}
+use Rattle.report.specs.Report.{Sound, laid}
+use Rattle.answer_ask.specs.Facing.{Facing, Answered}
+
+-- The job stands as N tags and its items, and the table holds the past of its records.
+pub record Asking (job w : List ℕ) (N len joins : ℕ) : Type 0 where
+  pub stands : Job job (headIn job) (itemsIn job)
+  pub size : headIn job .size ≡ N
+  pub short : length job ≤ longest job
+  pub few : len ≡ length (recordsOf (itemsIn job))
+  pub records : recordsIn len w ≡ recordsOf (itemsIn job)
+  pub past : Past N len w joins
+
+-- What meeting an item leads to: a note is passed and a question answered.
+pub data Stepped (w room : List ℕ) (N len next out before : ℕ) : Item → ℕ → ℕ → ℕ → List ℕ → List ℕ → Type 0 where
+  passes : {n : Note} → Stepped w room N len next out before (noted n) next out (before + length (standsFor n)) w room
+  answers : {q : Question} {end : ℕ} {w′ room′ : List ℕ} → Answered w room N len before out q w′ room′ end → Stepped w room N len next out before (posed q) next end before w′ room′
+
+-- A field that is an item is met: a note whose records can be counted, or a question.
+pub data Meeting (w room : List ℕ) (N len joins out before : ℕ) : Field → Type 0 where
+  note-met : {n : Note} → before + length (standsFor n) < 65536 → Meeting w room N len joins out before (item (noted n))
+  question-met : {q : Question} → Facing w room N len joins before out q → Meeting w room N len joins out before (item (posed q))
+
+-- What a field leads to that is an item.
+pub data Onward (w room : List ℕ) (N len next out before : ℕ) (at′ out′ before′ : ℕ) (w′ room′ : List ℕ) : Field → Type 0 where
+  onward : {i : Item} → Stepped w room N len next out before i at′ out′ before′ w′ room′ → Onward w room N len next out before at′ out′ before′ w′ room′ (item i)
+
+-- The end field.
+abbrev pub isEnd : Field → Bool
+isEnd (bad n) = false
+isEnd (header n) = false
+isEnd (item i) = false
+isEnd end = true
+
+-- Midway through the job: the items from `at` on are still to be answered, and what stands at the front of the room makes a sound report of
+-- whatever is a sound report of them.
+pub record Midway (job w room : List ℕ) (N len joins at out before : ℕ) (w′ room′ : List ℕ) : Type 0 where
+  pub asking : Asking job w′ N len joins
+  pub rest : List Item
+  pub stands : Stands job (headIn job .size) at rest
+  pub moment : Moment
+  pub passed : moment .records ≡ before
+  pub counted : before + length (recordsOf rest) ≡ len
+  pub bytes : List ℕ
+  pub sound : (bs : List ℕ) → Sound (matterIn job) moment rest bs → Sound (matterIn job) start (itemsIn job) (bytes ++ bs)
+  pub reached : out ≡ length bytes
+  pub front : room′ ≡ laid 0 bytes room
+  pub fits : out + neededRoom (headIn job) moment rest ≤ length room
+  pub kept : Within scratch w w′
+
+-- All questions answered: the totals are left to write, at the end of what stands in the room.
+pub record Told (job w room : List ℕ) (N len joins : ℕ) (w′ room′ : List ℕ) (end : ℕ) : Type 0 where
+  pub moment : Moment
+  pub bytes : List ℕ
+  pub sound : (bs : List ℕ) → Sound (matterIn job) moment [] bs → Sound (matterIn job) start (itemsIn job) (bytes ++ bs)
+  pub reached : end ≡ length bytes
+  pub front : room′ ≡ laid 0 bytes room
+  pub fits : end + 7 ≤ length room
+  pub kept : Within scratch w w′
+
+-- An accepted job of N tags whose len records stand in the table's columns, and a room that is as large as needed.
+pub record Ready (job room w : List ℕ) (N len : ℕ) : Type 0 where
+  pub short : length job ≤ longest job
+  pub stands : Job job (headIn job) (itemsIn job)
+  pub size : headIn job .size ≡ N
+  pub few : len ≡ length (recordsOf (itemsIn job))
+  pub loaded : Loaded N len w
+  pub records : recordsIn len w ≡ recordsOf (itemsIn job)
+  pub fits : neededRoom (headIn job) start (itemsIn job) ≤ length room
+
+-- A sound report of the job, so many bytes long, stands at the front of the room, and every byte behind it is as it was.
+pub record Responded (job room w : List ℕ) (room′ w′ : List ℕ) (n : ℕ) : Type 0 where
+  pub bytes : List ℕ
+  pub sound : Sound (matterIn job) start (itemsIn job) bytes
+  pub size : n ≡ length bytes
+  pub front : room′ ≡ bytes ++ drop (length bytes) room
+  pub kept : Within behindColumns w w′

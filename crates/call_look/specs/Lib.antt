@@ -1,0 +1,4 @@
+pub mod Look
+pub mod Clear
+pub mod Lent
+pub mod Begun

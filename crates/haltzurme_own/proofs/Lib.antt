@@ -1,0 +1,2 @@
+mod Local
+pub mod Inside

@@ -1,0 +1,183 @@
+-- Document 01, "The job and the report" and "What is lent, and each refusal": the job is read front to back, one field at a time,
+-- and every byte string is accepted or refused by number and place. Document 02, No. 2: which number was wrong.
+-- Assumes nothing.
+use Prim.Native.Nat.{ℕ, zero, suc, _+_, _*_}
+use mathlib.Core.Bool.{Bool, true, false, cond, _&&_}
+use mathlib.Core.List.{List, [], _∷_}
+use lib.Dec.{eqb, ltb, leb}
+use lib.ListN.{length, getD}
+use Rattle.meaning.specs.Following.{eq, app}
+use Rattle.meaning.specs.Limits.{mostQuestions, mostRecords, mostTags}
+use Rattle.job_field.specs.Items.{Head, line, Item, noted, posed, ask, explain, standsFor, tagsOf, Moment, start, after, Reading, refused, accepted, unsized, headOf, itemsOf, Matter, matterOf}
+
+-- All numbers are two bytes, high byte first.
+abbrev pub byteAt : List ℕ → ℕ → ℕ
+byteAt job at = getD job at 0
+
+abbrev pub numberAt : List ℕ → ℕ → ℕ
+numberAt job at = byteAt job at * 256 + byteAt job (at + 1)
+
+-- The kinds of the job's table, and one more for a byte that is no kind there.
+pub data Kind : Type 0 where
+  first record-eq record-app question-ask question-explain last unknown : Kind
+
+-- What a field says: nothing, with the number of its refusal; what the first field says; an item; that the job ends.
+pub data Field : Type 0 where
+  bad : ℕ → Field
+  header : Head → Field
+  item : Item → Field
+  end : Field
+
+-- The job's table, line by line: the byte of each kind, the bytes of its body, and what its numbers say. The kind that a byte names:
+-- 10 hex (16) is the first field, once, so that it stands at 0 and nowhere else, and at 0 nothing else stands; 7F hex (127) is the end.
+abbrev pub firstKind : ℕ → Kind
+firstKind b = cond (eqb b 16) first unknown
+
+abbrev pub laterKind : ℕ → Kind
+laterKind b =
+    cond (eqb b 1) record-eq
+    (cond (eqb b 2) record-app
+    (cond (eqb b 3) question-ask
+    (cond (eqb b 4) question-explain
+    (cond (eqb b 127) last unknown))))
+
+abbrev pub kindAt : ℕ → ℕ → Kind
+kindAt at b = cond (eqb at 0) (firstKind b) (laterKind b)
+
+-- The bytes of each kind's body: N; a, b; a, b, c; s, t; s, t; none.
+abbrev pub bodyLength : Kind → ℕ
+bodyLength first = 2
+bodyLength record-eq = 4
+bodyLength record-app = 6
+bodyLength question-ask = 4
+bodyLength question-explain = 4
+bodyLength last = 0
+bodyLength unknown = 0
+
+-- What a kind says with the numbers of its body, of which there are three at most.
+abbrev pub says : Kind → ℕ → ℕ → ℕ → Field
+says first a b c = header (record { size = a })
+says record-eq a b c = item (noted (line (eq a b)))
+says record-app a b c = item (noted (line (app a b c)))
+says question-ask a b c = item (posed (ask a b))
+says question-explain a b c = item (posed (explain a b))
+says last a b c = end
+says unknown a b c = bad 4
+
+-- Every kind of the table is known.
+abbrev pub known : Kind → Bool
+known first = true
+known record-eq = true
+known record-app = true
+known question-ask = true
+known question-explain = true
+known last = true
+known unknown = false
+
+-- The length that a field states, and the place behind the field: its three bytes and as many as it states.
+abbrev pub lengthAt : List ℕ → ℕ → ℕ
+lengthAt job at = numberAt job (at + 1)
+
+abbrev pub behindAt : List ℕ → ℕ → ℕ
+behindAt job at = at + (3 + lengthAt job at)
+
+-- The field of a kind whose body stands at a place.
+abbrev pub bodyAt : List ℕ → ℕ → Kind → Field
+bodyAt job at k = says k (numberAt job at) (numberAt job (at + 2)) (numberAt job (at + 4))
+
+-- The test must hold, or else the field is refused by the number.
+abbrev pub orElse : Bool → ℕ → Field → Field
+orElse true n f = f
+orElse false n f = bad n
+
+-- The first half of the order for a field: three bytes present (else 3); kind known and in its place (4); length right for the kind
+-- (5); body present (3).
+abbrev pub ofKind : List ℕ → ℕ → Kind → Field
+ofKind job at k =
+    orElse (known k) 4
+    (orElse (eqb (lengthAt job at) (bodyLength k)) 5
+    (orElse (leb (behindAt job at) (length job)) 3 (bodyAt job (at + 3) k)))
+
+unfoldable pub fieldAt : List ℕ → ℕ → Field
+fieldAt job at = orElse (leb (at + 3) (length job)) 3 (ofKind job at (kindAt at (byteAt job at)))
+
+-- The records that a note stands for are counted with those before it, and so is a question.
+abbrev pub counted : Moment → Field → Bool
+counted b (bad n) = true
+counted b (header M) = true
+counted b (item (noted n)) = leb (b .records + length (standsFor n)) mostRecords
+counted b (item (posed q)) = ltb (b .questions) mostQuestions
+counted b end = true
+
+-- N is from 1 to 1,000.
+abbrev pub sizeRight : Head → Bool
+sizeRight M = ltb 0 (M .size) && leb (M .size) mostTags
+
+abbrev pub sized : Field → Bool
+sized (bad n) = true
+sized (header M) = sizeRight M
+sized (item i) = true
+sized end = true
+
+-- The tags of a field, in the order of its body.
+abbrev pub fieldTags : Field → List ℕ
+fieldTags (bad n) = []
+fieldTags (header M) = []
+fieldTags (item i) = tagsOf i
+fieldTags end = []
+
+-- "A tag of N or more gets its own number. If several are wrong the first is told": a number for the first tag, the next one for the second, and so on.
+abbrev pub tagged : ℕ → ℕ → List ℕ → Field → Field
+tagged N n [] f = f
+tagged N n (t ∷ ts) f = orElse (ltb t N) n (tagged N (suc n) ts f)
+
+-- The second half of the order: count limit (7); N (6); "11, 12, 13 for first, second and third tag, in 6's place in the order".
+unfoldable pub checked : Head → Moment → Field → Field
+checked H b f = orElse (counted b f) 7 (orElse (sized f) 6 (tagged (H .size) 11 (fieldTags f) f))
+
+-- "Its place is that number's first byte": how far behind the field's first byte the place of a refusal is.
+abbrev pub offsetOf : ℕ → ℕ
+offsetOf n = cond (eqb n 11) 3 (cond (eqb n 12) 5 (cond (eqb n 13) 7 0))
+
+-- What is read behind an item, with the item before it.
+abbrev pub with : Item → Reading → Reading
+with i (refused n p) = refused n p
+with i (accepted H is) = accepted H (i ∷ is)
+
+-- Nothing follows the end field: a byte after it is refused by 8 at that byte.
+abbrev pub behind : List ℕ → Head → ℕ → Reading
+behind job H at = cond (leb (length job) at) (accepted H []) (refused 8 at)
+
+-- What a field at a place leads to, with what the first field said and the moment before it: a refusal has its place in the field;
+-- from the others reading goes on behind the field.
+abbrev pub onward : (Head → Moment → ℕ → Reading) → List ℕ → Head → Moment → ℕ → Field → Reading
+onward read job H b at (bad n) = refused n (at + offsetOf n)
+onward read job H b at (header M) = read M b (behindAt job at)
+onward read job H b at (item i) = with i (read H (after i b) (behindAt job at))
+onward read job H b at end = behind job H (behindAt job at)
+
+-- Reading from a place, at most so many fields. A field has three bytes at least, so that a number above the bytes that are left is
+-- never spent (proofs/Reading, read-enough).
+unfoldable pub readFrom : ℕ → List ℕ → Head → Moment → ℕ → Reading
+readFrom zero job H b at = refused 3 at
+readFrom (suc n) job H b at = onward (readFrom n job) job H b at (checked H b (fieldAt job at))
+
+-- The whole job, from its first byte. No N stands before the first field, which is the only one that needs none.
+unfoldable pub reading : List ℕ → Reading
+reading job = readFrom (suc (length job)) job unsized start 0
+
+-- What its first field says, its items, and what its report is held against, as functions of the job's bytes.
+abbrev pub headIn : List ℕ → Head
+headIn job = headOf (reading job)
+
+abbrev pub itemsIn : List ℕ → List Item
+itemsIn job = itemsOf (reading job)
+
+abbrev pub matterIn : List ℕ → Matter
+matterIn job = matterOf (headIn job) (itemsIn job)
+
+-- The longest job, 43,008 bytes: 5 + 36,000 + 7,000 + 3. Refusal 1 holds a job against it.
+abbrev pub longest : List ℕ → ℕ
+longest job = 43008
+
+-- The named places: 4,000 of the record table, 32,768 of the work table. Refusal 2 holds the tables against them.

@@ -1,0 +1,280 @@
+// The fields of a job: what its bytes say at a place. Document 01, "The job and the report" and "What is lent, and each
+// refusal"; document 02, No. 2. The field reader below is the only place on this side that makes a tag out of bytes; what limits a field is
+// tested in job_limits. Rests on meaning.
+ghost use mathlib.Core.Path.{_≡_};
+ghost use Prim.Native.Nat.{_+_, _≤_};
+ghost use lib.ListN.{length};
+ghost use Rattle.job_field.specs.Reading.{byteAt, numberAt, kindAt, laterKind, known, bodyLength, says, bodyAt, behindAt, ofKind, fieldAt, offsetOf};
+ghost use Rattle.job_field.specs.Answer.{numberOf, kindOf, noteSaid, said};
+ghost use Rattle.job_field.specs.Items.{standsFor};
+use meaning::Tag;
+
+// Why a job is refused, in the order of the documents' numbers, 3 to 8 and 11 to 13.
+pub enum Fault {
+    // The job ends inside a field or before the end field.
+    Cut,
+    // An unknown kind, a first field that is not 10, or a second 10.
+    Misplaced,
+    // A wrong length for the kind.
+    Misfit,
+    // N is 0 or above 1,000.
+    OutOfRange,
+    // The 4,001st record or the 1,001st question.
+    TooMany,
+    // A byte after the end field.
+    Trailing,
+    // The first, the second or the third tag of a field is N or more.
+    FirstTag,
+    SecondTag,
+    ThirdTag,
+}
+
+// The number that the documents give a refusal.
+pub fn number_of(fault: Fault) -> u8
+    ensures { λ r. ⌜ r ≡ numberOf fault ⌝ }
+{
+    match fault {
+        Fault::Cut => 3,
+        Fault::Misplaced => 4,
+        Fault::Misfit => 5,
+        Fault::OutOfRange => 6,
+        Fault::TooMany => 7,
+        Fault::Trailing => 8,
+        Fault::FirstTag => 11,
+        Fault::SecondTag => 12,
+        Fault::ThirdTag => 13,
+    }
+}
+
+// How far behind a field's first byte its refusal has its place: at the tag itself, where one is at fault.
+pub fn offset_of(fault: Fault) -> usize
+    ensures { λ r. ⌜ (r ≡ offsetOf (numberOf fault)) × (r ≤ 7) ⌝ }
+{
+    match fault {
+        Fault::Cut => 0,
+        Fault::Misplaced => 0,
+        Fault::Misfit => 0,
+        Fault::OutOfRange => 0,
+        Fault::TooMany => 0,
+        Fault::Trailing => 0,
+        Fault::FirstTag => 3,
+        Fault::SecondTag => 5,
+        Fault::ThirdTag => 7,
+    }
+}
+
+// The kinds of a job's fields.
+pub enum Kind {
+    First,
+    Equal,
+    Apply,
+    Asked,
+    Explained,
+    Last,
+    Unknown,
+}
+
+// A note of the job, which is `Note` in specs/Items: a record.
+pub enum Line {
+    Equation(Tag, Tag),
+    Application(Tag, Tag, Tag),
+}
+
+// A question of the job, which is `Question` in specs/Items.
+pub enum Query {
+    Ask(Tag, Tag),
+    Explain(Tag, Tag),
+}
+
+// What stands at a place of a job. A new kind is a new `Line` or `Query`: here the cases stay these five.
+pub enum Field {
+    Bad(Fault),
+    Header(u16),
+    Noted(Line),
+    Posed(Query),
+    End,
+}
+
+// The kind that a byte names at a place: 10 hex stands first and nowhere else.
+fn kind_at(at: usize, byte: u8) -> Kind
+    ensures { λ r. ⌜ kindOf r ≡ kindAt at byte ⌝ }
+{
+    if at == 0 {
+        if byte == 0x10 {
+            Kind::First
+        } else {
+            Kind::Unknown
+        }
+    } else {
+        later_kind(byte)
+    }
+}
+
+// The kind that a byte names behind the first field.
+fn later_kind(byte: u8) -> Kind
+    ensures { λ r. ⌜ kindOf r ≡ laterKind byte ⌝ }
+{
+    match byte {
+        0x01 => Kind::Equal,
+        0x02 => Kind::Apply,
+        0x03 => Kind::Asked,
+        0x04 => Kind::Explained,
+        0x7F => Kind::Last,
+        _ => Kind::Unknown,
+    }
+}
+
+// Whether a byte named a kind of the table.
+fn is_known(kind: Kind) -> bool
+    ensures { λ r. ⌜ r ≡ known (kindOf kind) ⌝ }
+{
+    match kind {
+        Kind::First => true,
+        Kind::Equal => true,
+        Kind::Apply => true,
+        Kind::Asked => true,
+        Kind::Explained => true,
+        Kind::Last => true,
+        Kind::Unknown => false,
+    }
+}
+
+// The bytes of a kind's body.
+fn body_length(kind: Kind) -> u16
+    ensures { λ r. ⌜ r ≡ bodyLength (kindOf kind) ⌝ }
+{
+    match kind {
+        Kind::First => 2,
+        Kind::Equal => 4,
+        Kind::Apply => 6,
+        Kind::Asked => 4,
+        Kind::Explained => 4,
+        Kind::Last => 0,
+        Kind::Unknown => 0,
+    }
+}
+
+// How many records a note stands for.
+pub fn stands_for(l: Line) -> u16
+    ensures { λ r. ⌜ r ≡ length (standsFor (noteSaid l)) ⌝ }
+{
+    match l {
+        Line::Equation(_, _) => 1,
+        Line::Application(_, _, _) => 1,
+    }
+}
+
+// A byte of the job; one that is not there counts as 0.
+fn byte(job: &[u8], at: usize) -> u8
+    ensures { λ r. ⌜ r ≡ byteAt (now (job .entry)) at ⌝ }
+{
+    if at < job.len() { job[at] } else { 0 }
+}
+
+// A number is two bytes, high byte first.
+fn number(job: &[u8], at: usize) -> u16
+    requires { ⌜ at ≤ length (now job) + 4 ⌝ }
+    ensures { λ r. ⌜ r ≡ numberAt (now (job .entry)) at ⌝ }
+{
+    let high = byte(job, at) as u16;
+    let low = byte(job, at + 1) as u16;
+    high * 256 + low
+}
+
+// What a kind says with the numbers of its body: here they become tags.
+fn meant(kind: Kind, a: u16, b: u16, c: u16) -> Field
+    ensures { λ r. ⌜ said r ≡ says (kindOf kind) a b c ⌝ }
+{
+    match kind {
+        Kind::First => Field::Header(a),
+        Kind::Equal => Field::Noted(Line::Equation(Tag(a), Tag(b))),
+        Kind::Apply => Field::Noted(Line::Application(Tag(a), Tag(b), Tag(c))),
+        Kind::Asked => Field::Posed(Query::Ask(Tag(a), Tag(b))),
+        Kind::Explained => Field::Posed(Query::Explain(Tag(a), Tag(b))),
+        Kind::Last => Field::End,
+        Kind::Unknown => Field::Bad(Fault::Misplaced),
+    }
+}
+
+// The field of a kind whose body stands at a place, by the body's numbers.
+fn body(job: &[u8], at: usize, kind: Kind) -> Field
+    requires { ⌜ at ≤ length (now job) ⌝ }
+    ensures { λ r. ⌜ said r ≡ bodyAt (now (job .entry)) at (kindOf kind) ⌝ }
+{
+    meant(
+        kind,
+        number(job, at),
+        number(job, at + 2),
+        number(job, at + 4),
+    )
+}
+
+// A number of two bytes as a place.
+pub fn wide(x: u16) -> usize
+    ensures { λ r. ⌜ r ≡ x ⌝ }
+{
+    x as usize
+}
+
+// The field of a kind whose first three bytes are there: kind, length, body, in this order.
+fn of_kind(job: &[u8], at: usize, kind: Kind) -> Field
+    requires { ⌜ at + 3 ≤ length (now job) ⌝ }
+    ensures { λ r. ⌜ said r ≡ ofKind (now (job .entry)) at (kindOf kind) ⌝ }
+{
+    if is_known(kind) {
+        let due = body_length(kind);
+        let stated = number(job, at + 1);
+        if stated == due {
+            if wide(stated) <= job.len() - (at + 3) {
+                body(job, at + 3, kind)
+            } else {
+                Field::Bad(Fault::Cut)
+            }
+        } else {
+            Field::Bad(Fault::Misfit)
+        }
+    } else {
+        Field::Bad(Fault::Misplaced)
+    }
+}
+
+// The cursor: the field at a place of a job, whatever stands there.
+pub fn field_at(job: &[u8], at: usize) -> Field
+    ensures { λ r. ⌜ said r ≡ fieldAt (now (job .entry)) at ⌝ }
+{
+    if job.len() < 3 {
+        return Field::Bad(Fault::Cut);
+    }
+    if job.len() - 3 < at {
+        return Field::Bad(Fault::Cut);
+    }
+    of_kind(job, at, kind_at(at, job[at]))
+}
+
+// The place behind a field: its three bytes and as many as it states further on.
+pub fn behind(job: &[u8], at: usize) -> usize
+    requires { ⌜ at ≤ length (now job) ⌝ }
+    ensures { λ r. ⌜ r ≡ behindAt (now (job .entry)) at ⌝ }
+{
+    at + (3 + wide(number(job, at + 1)))
+}
+
+// The thin reader: the job's slice and a position in it, over the cursor.
+pub struct Reader<'a> {
+    pub job: &'a [u8],
+    pub at: usize,
+}
+
+// The field at the reader's position.
+pub fn next<'a>(reader: Reader<'a>) -> Field
+    ensures { λ r. ⌜ said r ≡ fieldAt (now (reader .entry .job)) (reader .entry .at) ⌝ }
+{
+    field_at(reader.job, reader.at)
+}
+
+// The field at a place, through a reader: who calls it deals with a plain slice and a number.
+pub fn read(job: &[u8], at: usize) -> Field
+    ensures { λ r. ⌜ said r ≡ fieldAt (now (job .entry)) at ⌝ }
+{
+    next(Reader { job, at })
+}

@@ -1,0 +1,66 @@
+-- `job_limits::is_counted` meets its contract: each arm has its field, at which `counted` computes.
+-- Assumes nothing.
+use borrow.Author.Needs.{needs}
+use Rattle.job_limits.proofs.is_counted.Statement.{statement}
+use Rattle.job_limits.proofs.is_counted.Tie as tie
+
+enum-told : tie.Need-enum-told
+enum-told c = search needs
+
+enum-told-2 : tie.Need-enum-told-2
+enum-told-2 c = search needs
+
+enum-known-field : tie.Need-enum-known-field
+enum-known-field c = search needs
+
+wide-requires : tie.Need-wide-requires
+wide-requires c κs = search needs
+
+stands-for-requires : tie.Need-stands-for-requires
+stands-for-requires c κs = search needs
+
+wide-requires-2 : tie.Need-wide-requires-2
+wide-requires-2 c κs = search needs
+
+add-result : tie.Need-add-result
+add-result c = search needs
+
+enum-told-3 : tie.Need-enum-told-3
+enum-told-3 c = search needs
+
+enum-told-4 : tie.Need-enum-told-4
+enum-told-4 c = search needs
+
+returns : tie.Need-returns
+returns c = search needs
+
+returns-2 : tie.Need-returns-2
+returns-2 c = search needs
+
+returns-3 : tie.Need-returns-3
+returns-3 c = rw (c .before .before .before .before .field .given .1, ← c .before .stands-for .ensures, ← c .wide2 .ensures, ← c .before .before .wide .ensures)
+
+returns-4 : tie.Need-returns-4
+returns-4 c = rw (c .before .enum-told3 .given .1)
+
+returns-5 : tie.Need-returns-5
+returns-5 c = search needs
+
+pub is-counted-spec : {M : Type 1} → statement M
+is-counted-spec =
+    tie.close
+    (tie.spec
+    enum-told
+    enum-told-2
+    enum-known-field
+    wide-requires
+    stands-for-requires
+    wide-requires-2
+    add-result
+    enum-told-3
+    enum-told-4
+    returns
+    returns-2
+    returns-3
+    returns-4
+    returns-5)

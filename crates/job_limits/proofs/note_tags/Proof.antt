@@ -1,0 +1,20 @@
+-- `job_limits::note_tags` meets its contract: each arm has its note, at which its tags compute.
+-- Assumes nothing.
+use borrow.Author.Needs.{needs}
+use Rattle.job_limits.proofs.note_tags.Statement.{statement}
+use Rattle.job_limits.proofs.note_tags.Tie as tie
+
+enum-known-l : tie.Need-enum-known-l
+enum-known-l c = search needs
+
+enum-known-l-2 : tie.Need-enum-known-l-2
+enum-known-l-2 c = search needs
+
+returns : tie.Need-returns
+returns c = rw (c .before .l .given .1)
+
+returns-2 : tie.Need-returns-2
+returns-2 c = rw (c .before .l2 .given .1)
+
+pub note-tags-spec : {M : Type 1} → statement M
+note-tags-spec = tie.close (tie.spec enum-known-l enum-known-l-2 returns returns-2)

@@ -1,0 +1,215 @@
+-- Each item of the job leads on: a record asks nothing of the report, a right field is passed, and at a wrong one the report's first fault
+-- stands. Behind the last item only the totals may stand. Assumes nothing.
+use Prim.Native.Nat.{ℕ, suc, _+_, _-_, _≤_, _<_}
+use native.Mathlib.Omega.{arith}
+use mathlib.Core.Path.{_≡_, refl, sym, _∙_, ap, subst}
+use mathlib.Core.List.{List, [], _∷_, _++_, append-nil}
+use lib.ListN.{length, drop, getD, length-drop, length-append}
+use lib.Seq.{drop-cons}
+use Rattle.meaning.specs.Following.{UpTo}
+use Rattle.meaning.specs.Totals.{Classes, Idles}
+use Rattle.meaning.proofs.Laws.{classes-one, idles-one, classes-most, idles-most}
+use Rattle.job_field.specs.Items.{Head, Matter, Moment, start, after, Note, standsFor, Question, tagsOfQuestion, Item, noted, posed, recordsOf}
+use Rattle.job_field.specs.Reading.{behindAt, fieldAt, bad, header, item, end, headIn, itemsIn, matterIn}
+use Rattle.job_field.specs.Standing.{Below, Met}
+use Rattle.job_field.proofs.Standing.{stands-item, stands-end, stands-not-bad, stands-not-header, stands-within}
+use Rattle.table.specs.Map.{recordsIn, Within}
+use Rattle.table.specs.Places.{LIST, fromTo, scratch}
+use Rattle.moment.proofs.Kept.{kept-records, kept-past}
+use Rattle.report.specs.Report.{numbers, field, Answers, Totalled, total, Sound, totals, passed, answered, Known}
+use Rattle.report.specs.Fault.{Stands, FaultAt, past, behind, wrong as faulty, closing, spare}
+use Rattle.report.proofs.Fits.{totalled-length}
+use Rattle.report_read.proofs.Read.{holds-room}
+use Rattle.judge.specs.declared.Closed.{Closed}
+use Rattle.judge.specs.declared.Turn.{Turn}
+use Rattle.judge.specs.declared.Judgement.{Judgement}
+use Rattle.answer_ask.specs.declared.Passed.{Passed}
+use Rattle.answer_ask.specs.declared.Passed.the-variants.{To, Wrong}
+use Rattle.judge.specs.declared.Stand.{Stand}
+use Rattle.judge.specs.declared.Turn.the-variants.{On, Done}
+use Rattle.judge.specs.Judging.{Judgeable, Verdict, sound, fault}
+use Rattle.answer_ask.specs.Right.{RightAt, to, wrong}
+use Rattle.judge.specs.Testing.{Testing, Tested}
+use Rattle.judge.specs.Ended.{Ended}
+use Rattle.judge.specs.Ended as r
+use Rattle.judge.specs.Going.{Going, Turned, on, done, behind as turnBehind}
+use Rattle.answer_ask.proofs.Right.{found}
+
+-- The table's data are kept by what writes only from the list on.
+pub judgeable-kept : {job w w′ : List ℕ} {N len joins idle e : ℕ} → Within (fromTo (LIST .at) e) w w′ → Judgeable job w N len joins idle → Judgeable job w′ N len joins idle
+judgeable-kept {len = len} f h = record {
+  accepted = h .accepted;
+  size = h .size;
+  count = h .count;
+  held = kept-records f len ∙ h .held;
+  past = kept-past f (h .past);
+  classes = h .classes;
+  idles = h .idles;
+}
+
+pub going-start : {job w : List ℕ} {N len joins idle : ℕ} (report : List ℕ) → Judgeable job w N len joins idle → (at : ℕ) → at ≡ behindAt job 0 → Going job report (record { at = at; place = 0; before = 0 })
+going-start {job} report h at e = record {
+  left = itemsIn job;
+  stands = rw e (h .accepted .stands);
+  moment = start;
+  passed = refl;
+  counted = omega arith;
+  within = omega arith;
+  sound = λ s. s;
+  fault = λ p f. f;
+}
+
+pub going-within : {job report : List ℕ} {s : Stand} → Going job report s → s .at + 3 ≤ length job
+going-within {job} {report} {s} g = stands-within job (headIn job .size) (s .at) (g .left) (g .stands)
+
+-- A sound rest, or a fault in it, with the bytes as they stand.
+module _ {M : Matter} {b : Moment} where
+  sound-moved : {is : List Item} {bs bs′ : List ℕ} → bs ≡ bs′ → Sound M b is bs → Sound M b is bs′
+  sound-moved f h = rw (← f) h
+
+  fault-moved : {is : List Item} {at at′ : ℕ} {bs bs′ : List ℕ} {p : ℕ} → at ≡ at′ → bs ≡ bs′ → FaultAt M b is at bs p → FaultAt M b is at′ bs′ p
+  fault-moved a f h = rw (← a, ← f) h
+
+-- What is known while the items `is` are left.
+record Over (job report : List ℕ) (s : Stand) (b : Moment) (is : List Item) : Type 0 where
+  counted : s .before + length (recordsOf is) ≡ length (recordsOf (itemsIn job))
+  within : s .place ≤ length report
+  sound : Sound (matterIn job) b is (drop (s .place) report) → Sound (matterIn job) start (itemsIn job) report
+  fault : (p : ℕ) → FaultAt (matterIn job) b is (s .place) (drop (s .place) report) p → FaultAt (matterIn job) start (itemsIn job) 0 report p
+
+over : {job report : List ℕ} {s : Stand} (g : Going job report s) (is : List Item) → g .left ≡ is → Over job report s (g .moment) is
+over {job} {report} {s} g is e = subst (λ (x : List Item). Over job report s (g .moment) x) e (record { counted = g .counted; within = g .within; sound = g .sound; fault = g .fault })
+
+module _ {job report : List ℕ} {s : Stand} (g : Going job report s) where
+  met : (i : Item) → fieldAt job (s .at) ≡ item i → Met job (headIn job .size) (s .at) i (g .left)
+  met i e = stands-item job (headIn job .size) (s .at) i (g .left) (g .stands) e
+
+  pub item-tags : (q : Question) → fieldAt job (s .at) ≡ item (posed q) → Below (headIn job .size) (tagsOfQuestion q)
+  item-tags q e = met (posed q) e .tags
+
+  pub before-most : s .before ≤ length (recordsOf (itemsIn job))
+  before-most = omega (arith, g .counted)
+
+  -- A note.
+  pub going-note : (m : Note) (n k : ℕ) → n ≡ behindAt job (s .at) → k ≡ length (standsFor m) → fieldAt job (s .at) ≡ item (noted m) → Turned job report s (On (record { at = n; place = s .place; before = s .before + k }))
+  going-note m n k i d e =
+      let y = met (noted m) e in
+      let o = over g (noted m ∷ y .rest) (y .first) in
+      on {t = record { at = n; place = s .place; before = s .before + k }} (omega arith)
+      (record {
+        left = y .rest;
+        stands = rw i (y .onward);
+        moment = after (noted m) (g .moment);
+        passed = rw (d, g .passed);
+        counted = omega (arith, o .counted, length-append (standsFor m) (recordsOf (y .rest)));
+        within = g .within;
+        sound = λ h. o .sound (passed h);
+        fault = λ p f. o .fault p (past f);
+      })
+
+  -- A question whose field is right, or wrong.
+  going-question : (q : Question) (n : ℕ) → n ≡ behindAt job (s .at) → fieldAt job (s .at) ≡ item (posed q) → (a : Passed) → RightAt (Answers (matterIn job) (g .moment) q) report (s .place) a
+      → Turned job report s (turnBehind a n (s .place) (s .before))
+  going-question q n k e (To p) h = go h refl
+    where
+      go : {a : Passed} → RightAt (Answers (matterIn job) (g .moment) q) report (s .place) a → a ≡ To p → Turned job report s (turnBehind (To p) n (s .place) (s .before))
+      go (to {f = f} {p = p′} a h x) z =
+          let m = met (posed q) e in
+          let o = over g (posed q ∷ m .rest) (m .first) in
+          let y : s .place + length f ≡ p = cc in
+          let bs : f ++ drop p report ≡ drop (s .place) report = rw (← y) (sym h) in
+          on {t = record { at = n; place = p; before = s .before }} (omega arith)
+          (record {
+            left = m .rest;
+            stands = rw k (m .onward);
+            moment = after (posed q) (g .moment);
+            passed = g .passed;
+            counted = o .counted;
+            within = omega (arith, holds-room report (s .place) f (g .within) h);
+            sound = λ t. o .sound (sound-moved bs (answered a t));
+            fault = λ r t. o .fault r (fault-moved refl bs (behind a (fault-moved (sym y) refl t)));
+          })
+      go (wrong h) z = let y : _≡_ {A = ℕ} 0 1 = cc in absurd (omega arith)
+  going-question q n k e Wrong h = go h refl
+    where
+      go : {a : Passed} → RightAt (Answers (matterIn job) (g .moment) q) report (s .place) a → a ≡ Wrong → Turned job report s (turnBehind Wrong n (s .place) (s .before))
+      go (to a h x) z = let y : _≡_ {A = ℕ} 0 1 = cc in absurd (omega arith)
+      go (wrong h) z = let m = met (posed q) e in done (fault (over g (posed q ∷ m .rest) (m .first) .fault (s .place) (faulty h)))
+
+  -- No other field stands among the items.
+  pub going-bad : (n : ℕ) → fieldAt job (s .at) ≡ bad n → ⊥
+  going-bad n = stands-not-bad job (headIn job .size) (s .at) n (g .left) (g .stands)
+
+  pub going-header : (n : Head) → fieldAt job (s .at) ≡ header n → ⊥
+  going-header n = stands-not-header job (headIn job .size) (s .at) n (g .left) (g .stands)
+
+-- The totals are one field.
+totals-field : {M : Matter} {c i : ℕ} {f : List ℕ} → Classes (M .head .size) (UpTo (M .records) (length (M .records))) c → Idles (M .head .size) (M .records) i → Totalled M f → f ≡ field 143 (numbers (c ∷ i ∷ []))
+totals-field h k (total h′ k′) = rw (classes-one h′ h, idles-one k′ k)
+
+-- At the end the bytes that are left are the totals.
+no-more : (l : List ℕ) → length l ≡ 0 → l ≡ []
+no-more [] e = refl
+no-more (x ∷ l) e = absurd (omega arith)
+
+module _ {M : Matter} {c i : ℕ} (h : Classes (M .head .size) (UpTo (M .records) (length (M .records))) c) (k : Idles (M .head .size) (M .records) i) (report : List ℕ) (at : ℕ) where
+  abbrev f : List ℕ
+  f = field 143 (numbers (c ∷ i ∷ []))
+
+  size : length f ≡ 7
+  size = totalled-length {M = M} (total h k)
+
+  pub verdict-end : {b : Moment} {a : Judgement} → Ended report at c i a → Verdict M b [] at (drop at report) a
+  verdict-end (r.right g l) =
+      let z : drop (at + length f) report ≡ [] = no-more (drop (at + length f) report) (omega (arith, length-drop (at + length f) report, size)) in
+      let e : f ≡ drop at report = sym (g ∙ ap (λ (x : List ℕ). f ++ x) z ∙ append-nil f) in
+      sound (sound-moved e (totals (total h k)))
+  verdict-end {b} (r.spare {p = p} g l q) =
+      let m : at + length f ≡ p = omega (arith, size) in
+      let z : drop p report ≡ getD report p 0 ∷ drop (suc p) report = drop-cons report p 0 (omega arith) in
+      let e : f ++ (getD report p 0 ∷ drop (suc p) report) ≡ drop at report = sym (g ∙ ap (λ (x : List ℕ). f ++ x) (ap (λ (n : ℕ). drop n report) m ∙ z)) in
+      fault (subst (λ (x : ℕ). FaultAt M b [] at (drop at report) x) m (fault-moved refl e (spare (total h k) (getD report p 0) (drop (suc p) report))))
+  verdict-end (r.wrong {p = p} g q) =
+      fault {p = p} (rw q (closing (λ x. let y = found report at x in g (rw (totals-field h k (y .is)) at (y .holds)))))
+
+-- The answer at the end field.
+pub going-end : {job report w : List ℕ} {N len joins idle : ℕ} {s : Stand} → Judgeable job w N len joins idle → Going job report s → fieldAt job (s .at) ≡ end
+    → (a : Judgement) → Ended report (s .place) (N - joins) idle a → Turned job report s (Done a)
+going-end {job} {report} {w} {N} {len} {joins} {idle} {s} J g e a h =
+    let o = over g [] (stands-end job (headIn job .size) (s .at) (g .left) (g .stands) e) in
+    let c : Classes (headIn job .size) (UpTo (recordsOf (itemsIn job)) (length (recordsOf (itemsIn job)))) (N - joins) = rw (J .size) (rw (J .count) at (J .classes)) in
+    let i : Idles (headIn job .size) (recordsOf (itemsIn job)) idle = rw (J .size) (J .idles) in
+    done (whole o (verdict-end {M = matterIn job} c i report (s .place) h))
+  where
+    whole : {b : Judgement} → Over job report s (g .moment) [] → Verdict (matterIn job) (g .moment) [] (s .place) (drop (s .place) report) b → Verdict (matterIn job) start (itemsIn job) 0 report b
+    whole o (sound t) = sound (o .sound t)
+    whole o (fault {p = p} t) = fault (o .fault p t)
+
+-- An item of the job as the code meets it.
+module _ {job report w : List ℕ} (c : Closed) (s : Stand) (J : Judgeable job w (c .size) (c .len) (c .joins) (c .idle)) (g : Going job report s) where
+  pub testing-there : (q : Question) → fieldAt job (s .at) ≡ item (posed q) → Testing report w (c .size) (c .len) (c .joins) (s .before) (s .place) q
+  testing-there q e = record { past = J .past; early = omega (arith, before-most g, J .count); tags = rw (J .size) at (item-tags g q e); within = g .within }
+
+  pub turn-question : (q : Question) (n : ℕ) → n ≡ behindAt job (s .at) → fieldAt job (s .at) ≡ item (posed q) → {w′ : List ℕ}
+      → (r : Passed) → Tested report w w′ (c .size) (c .len) (s .before) (s .place) q r → (t : Turn) → t ≡ turnBehind r n (s .place) (s .before) → Turned job report s t
+  turn-question q n k e r h t z =
+      let known : Known (matterIn job) (g .moment) (c .size) (recordsIn (c .len) w) (s .before) = record { size = J .size; records = sym (J .held); before = g .passed } in
+      rw z (going-question g q n k e r (h .right (matterIn job) (g .moment) known))
+
+  pub totals-fit : (s .place ≤ length report) × (c .size - c .joins < 65536) × (c .idle < 65536)
+  totals-fit = (g .within, omega (arith, classes-most (J .classes), J .past .loaded .few), omega (arith, idles-most (J .idles), J .count, J .past .loaded .most))
+
+-- A turn, taken apart.
+pub turned-on : {job report : List ℕ} {s t : Stand} {r : Turn} → Turned job report s r → r ≡ On t → (s .at < t .at) × Going job report t
+turned-on {job} {report} {s} {t} (on {t = t′} l g) e = let z : t′ ≡ t = cc in rw (← z) (l, g)
+turned-on (done v) e = let z : _≡_ {A = ℕ} 0 1 = cc in absurd (omega arith)
+
+pub turned-done : {job report : List ℕ} {s : Stand} {a : Judgement} {r : Turn} → Turned job report s r → r ≡ Done a → Verdict (matterIn job) start (itemsIn job) 0 report a
+turned-done (on l g) e = let z : _≡_ {A = ℕ} 0 1 = cc in absurd (omega arith)
+turned-done {a = a} (done {answer = b} v) e = let z : b ≡ a = cc in rw (← z) v
+
+-- What is known at each turn of the loop.
+pub record Judging (job report w₀ w : List ℕ) (c : Closed) (s : Stand) : Type 0 where
+  pub kept : Within scratch w₀ w
+  pub judgeable : Judgeable job w (c .size) (c .len) (c .joins) (c .idle)
+  pub going : Going job report s

@@ -1,0 +1,56 @@
+-- `judge::tested` meets its contract, question by question.
+-- Assumes nothing.
+use Rattle.job_field.specs.Answer.{questionSaid}
+use Rattle.table.proofs.Frame.{within-refl}
+use Rattle.report.proofs.Known.{ask-known, ask-tabled, explain-known, explain-tabled}
+use Rattle.answer_ask.proofs.Right.{right-same}
+use borrow.Author.Needs.{needs}
+use Rattle.judge.proofs.tested.Statement.{statement}
+use Rattle.judge.proofs.tested.Tie as tie
+use mathlib.Core.Path.{ap}
+use denote.Ref.{now}
+
+enum-known-q : tie.Need-enum-known-q
+enum-known-q c = search needs
+
+posed-requires : tie.Need-posed-requires
+posed-requires c κs = search needs
+
+led-requires : tie.Need-led-requires
+led-requires c κs = let t = rw (ap questionSaid (c .before .before .before .q .given .1)) at (c .before .before .before .before .before .before .before .pre) in (rw (c .posed .ensures) (record { past = t .past; early = t .early; from = t .tags .0; to = t .tags .1 .0 }), t .within)
+
+enum-known-q-2 : tie.Need-enum-known-q-2
+enum-known-q-2 c = search needs
+
+posed-requires-2 : tie.Need-posed-requires-2
+posed-requires-2 c κs = search needs
+
+explained-requires : tie.Need-explained-requires
+explained-requires c κs = let t = rw (ap questionSaid (c .before .before .before .q2 .given .1)) at (c .before .before .before .before .before .before .before .pre) in (rw (c .posed2 .ensures) (record { past = t .past; early = t .early; from = t .tags .0; to = t .tags .1 .0 }), t .within)
+
+same-length : tie.Need-same-length
+same-length c = search needs
+
+returns : tie.Need-returns
+returns c = rw (ap questionSaid (c .before .before .before .before .q .given .1)) (record { kept = within-refl (now (c .before .before .before .before .before .before .before .before .args .work)); right = λ M b K. right-same (ask-known K) (ask-tabled K) (rw (c .before .posed .ensures) at (c .led .ensures)) })
+
+same-length-2 : tie.Need-same-length-2
+same-length-2 c = search needs
+
+returns-2 : tie.Need-returns-2
+returns-2 c = rw (ap questionSaid (c .before .before .before .before .before .before .q2 .given .1)) (record { kept = c .before .before .explained .ensures .kept; right = λ M b K. right-same (explain-known K) (explain-tabled K) (rw (c .before .before .before .posed2 .ensures) at (c .before .before .explained .ensures .right)) })
+
+pub tested-spec : {M : Type 1} → statement M
+tested-spec =
+    tie.close
+    (tie.spec
+    enum-known-q
+    posed-requires
+    led-requires
+    enum-known-q-2
+    posed-requires-2
+    explained-requires
+    same-length
+    returns
+    same-length-2
+    returns-2)

@@ -1,0 +1,23 @@
+-- A question of the job, and the end of the report.
+-- Assumes nothing.
+use Prim.Native.Nat.{ℕ, _+_, _<_}
+use mathlib.Core.Path.{_≡_}
+use mathlib.Core.List.{List, [], _∷_}
+use lib.ListN.{length}
+use Rattle.meaning.specs.declared.Tag.{Tag}
+use Rattle.report.specs.Report.{numbers, field}
+use Rattle.report_read.specs.Read.{Holds}
+use Rattle.moment.specs.declared.Question.{Question}
+use Rattle.judge.specs.declared.Closed.{Closed}
+use Rattle.judge.specs.declared.Judgement.{Judgement}
+use Rattle.judge.specs.declared.Judgement.the-variants as j
+
+-- A question at its moment, among what the closure left.
+abbrev pub question : Closed → ℕ → Tag → Tag → Question
+question c before s t = record { size = c .size; len = c .len; joins = c .joins; before = before; s = s; t = t }
+
+-- The end of the report: these totals and nothing behind them; or a byte behind them; or not these totals.
+pub data Ended (report : List ℕ) (at classes idle : ℕ) : Judgement → Type 0 where
+  right : Holds report at (field 143 (numbers (classes ∷ idle ∷ []))) → length report ≡ at + 7 → Ended report at classes idle j.Sound
+  spare : {p : ℕ} → Holds report at (field 143 (numbers (classes ∷ idle ∷ []))) → at + 7 < length report → p ≡ at + 7 → Ended report at classes idle (j.Fault p)
+  wrong : {p : ℕ} → (Holds report at (field 143 (numbers (classes ∷ idle ∷ []))) → ⊥) → p ≡ at → Ended report at classes idle (j.Fault p)

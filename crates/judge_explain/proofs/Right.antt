@@ -1,0 +1,233 @@
+-- A right field that stands at a place is found there whole, so that looking for the numbers of a reason in it, or comparing its bytes with
+-- those of the field that says there is none, decides whether one stands there. Assumes nothing.
+use Prim.Native.Nat.{ℕ, _+_, _-_, _*_, _/_, _%_, _≤_, _<_}
+use native.Mathlib.Omega.{arith}
+use native.Mathlib.Decide.{ℕ-discrete}
+use mathlib.Core.Path.{_≡_, refl, sym, _∙_, ap}
+use mathlib.Core.Logic.{_≢_, _↔_}
+use mathlib.Core.Bool.{Bool, true, false}
+use mathlib.Core.List.{List, [], _∷_, List·Memᴰ}
+use lib.ListN.{length, getD, drop}
+use Rattle.meaning.specs.Following.{Rec, eq, Follows, same, UpTo, Only, Without}
+use Rattle.meaning.specs.Reasons.{Above, lastOf, FirstAt, Reason}
+use Rattle.meaning.proofs.Exact.{first-one}
+use Rattle.meaning.proofs.Laws.{reason-follows, reason-short}
+use Rattle.meaning.proofs.Short.{reason-others}
+use Rattle.meaning.proofs.Reference.{Small}
+use Rattle.meaning.proofs.Trim.{member-le-last, le-last}
+use Rattle.meaning.proofs.Close.{more-of}
+use Rattle.job_field.specs.Items.{explain}
+use Rattle.table.specs.Map.{whenOf, recordsIn, listOf, listIn, Within}
+use Rattle.table.proofs.Frame.{within-refl, within-trans, within-wider, length-gather}
+use Rattle.table.specs.Past.{Past}
+use Rattle.moment.specs.Meeting.{Met}
+use Rattle.moment.proofs.Kept.{kept-records, kept-loaded}
+use Rattle.moment.proofs.Moments.{met-join, met-first, met-later, met-never}
+use Rattle.reason.proofs.Whole.{small-records}
+use Rattle.report.specs.Report.{numbers, field, Answers, because, apart, tabled, afterRecords}
+use Rattle.report.specs.Fault.{Stands}
+use Rattle.report_read.specs.Read.{Holds, FrontAt, whole, none}
+use Rattle.report_numbers.specs.Read.{ListRead}
+use Rattle.report_read.specs.declared.Front.{Front}
+use Rattle.report_read.specs.declared.Front.the-variants.{Field, Cut}
+use Rattle.report.proofs.Bytes.{length-field, length-numbers, numbers-one, field-one}
+use Rattle.meaning.proofs.Tests.{is-not}
+use Rattle.meaning.specs.Limits.{mostTags}
+use Rattle.table.specs.Places.{mostWaiting, scratch}
+use Rattle.report_read.proofs.Read.{holds-one, field-body, field-room}
+use Rattle.moment.specs.declared.Question.{Question}
+use Rattle.answer_ask.specs.declared.Passed.the-variants.{To, Wrong}
+use Rattle.moment.specs.Posed.{Deciding}
+use Rattle.answer_ask.specs.Right.{RightAt, to, wrong}
+use Rattle.answer_ask.proofs.Right.{found}
+use Rattle.judge_explain.specs.Right.{Came, ExplainAnswer, Assuring, Explained, Reasoned, Known}
+use Rattle.reason_order.specs.Order.{Rising}
+use Rattle.reason_order.proofs.Order.{rising-named}
+use Rattle.reason_test.specs.Lists.{Named, Serving, Sufficient}
+use Rattle.reason_test.proofs.Lists.{posed-kept}
+
+-- The first k.
+module _ {N len n : ℕ} {w : List ℕ} (P : Past N len w n) (R s t : ℕ) (l : R ≤ len) where
+  pub came-same : s ≡ t → Came (recordsIn len w) R s t 0
+  came-same e = rw e (record { then = λ _. record { then = same; before = λ n m. absurd (omega arith) }; never = λ m. absurd (omega arith) })
+
+  pub came-never : (b : ℕ) → Met w s t b → mostTags ≤ b → Came (recordsIn len w) R s t (R + 1)
+  came-never b M h = record { then = λ m. absurd (omega arith); never = λ m. met-never P M R l (omega (arith, M .most)) }
+
+  pub came-met : (b k : ℕ) → Met w s t b → b < mostTags → k ≡ whenOf w b → Came (recordsIn len w) R s t k
+  came-met b k M h e = rw e (record { then = λ m. met-first P M (met-join P M h); never = met-later P M R l (met-join P M h) })
+
+-- An explain where the equality does not follow has one right field.
+module _ {N : ℕ} {rs : List Rec} {R s t : ℕ} (h : Follows (UpTo rs R) s t → ⊥) (report : List ℕ) (at : ℕ) where
+  apart-field : {f : List ℕ} → Answers (tabled N rs) (afterRecords R) (explain s t) f → f ≡ field 133 []
+  apart-field (because r) = absurd (h (reason-follows r))
+  apart-field (apart _) = refl
+
+  pub apart-right : Holds report at (field 133 []) → RightAt (Answers (tabled N rs) (afterRecords R) (explain s t)) report at (To (at + 3))
+  apart-right g = to {p = at + 3} (apart h) g (omega (arith, length-field 133 []))
+
+  pub apart-wrong : (Holds report at (field 133 []) → ⊥) → RightAt (Answers (tabled N rs) (afterRecords R) (explain s t)) report at Wrong
+  apart-wrong g = wrong (λ x. let r = found report at x in g (rw (apart-field (r .is)) at (r .holds)))
+
+pub apart-room : (report : List ℕ) (at : ℕ) → at ≤ length report → Holds report at (field 133 []) → at + 3 ≤ length report
+apart-room report at l h = omega (arith, field-room report at 133 [] l h)
+
+-- Where it follows, the right fields are those of its reasons.
+record Because (N : ℕ) (rs : List Rec) (R s t : ℕ) (f : List ℕ) : Type 0 where
+  list : List ℕ
+  reason : Reason N rs R s t list
+  is : f ≡ field 132 (numbers list)
+
+because-field : {N : ℕ} {rs : List Rec} {R s t : ℕ} {f : List ℕ} → Follows (UpTo rs R) s t → Answers (tabled N rs) (afterRecords R) (explain s t) f → Because N rs R s t f
+because-field h (because {L = L} r) = record { list = L; reason = r; is = refl }
+because-field h (apart g) = absurd (g h)
+
+-- The points of a reason that are tested, where the first k is at hand: the others follow from them.
+no-number : (L : List ℕ) → Above 0 L → lastOf 0 L ≡ 0 → L ≡ []
+no-number [] a e = refl
+no-number (x ∷ L) a e = absurd (omega (arith, a .0, le-last x L (a .1)))
+
+module _ {rs : List Rec} {s t k : ℕ} (h : FirstAt rs s t k) where
+  none-first : s ≡ t → k ≡ 0
+  none-first e = first-one h (rw e (record { then = same; before = λ n m. absurd (omega arith) }))
+
+  pub reason-rising : {N R : ℕ} {L : List ℕ} → Reason N rs R s t L → Dec (s ≡ t) → Rising L k
+  reason-rising r (yes e) = rw (r .empty e, none-first e) (record { rising = tt; last = refl })
+  reason-rising r (no e) = record { rising = r .rising; last = first-one (r .last e) h }
+
+  pub reason-tested : {N R : ℕ} {L : List ℕ} → k ≤ R → ((i : ℕ) → i < length rs → Small N (getD rs i (eq 0 0))) → Rising L k → Follows (Only rs L) s t → ((m : ℕ) → List·Memᴰ m L → Follows (Without rs L m) s t → ⊥) → Reason N rs R s t L
+  reason-tested {N} {R} {L} l small g e u =
+      reason-others N rs small (g .rising) (λ x i. omega (arith, member-le-last 0 L (g .rising) x i, g .last)) e (λ q. no-number L (g .rising) (g .last ∙ none-first q)) (λ d. rw (g .last) h) u
+
+-- What a test that is exact says where it fails.
+pub untrue : {A : Type 0} {b : Bool} → (b ≡ true) ↔ A → b ≡ false → A → ⊥
+untrue h e a = let t = h .1 a in let z : _≡_ {A = ℕ} 0 1 = cc in omega arith
+
+-- The bytes of a reason: they are even in number, at most 2(N-1) numbers, and the list that was read is the only one they say.
+module _ (w report : List ℕ) (at bytes : ℕ) (q : Question) where
+  pub reason-odd : bytes % 2 ≢ 0 → Deciding (Reasoned w report at bytes q) w w false
+  reason-odd h = record { kept = within-refl w; exact = is-not (λ r. h (omega (arith, r .all))) }
+
+  pub reason-long : 2 * (q .size - 1) < bytes / 2 → Deciding (Reasoned w report at bytes q) w w false
+  reason-long h = record { kept = within-refl w; exact = is-not (λ r. omega (arith, r .all, reason-short (r .reason))) }
+
+  module _ (w′ : List ℕ) {k : ℕ} (K : Known w q k) (even : bytes % 2 ≡ 0) (read : ListRead report at (bytes / 2) w w′) where
+    list-is : (r : Reasoned w report at bytes q) → r .list ≡ listIn (bytes / 2) w′
+    list-is r = numbers-one (r .list) (listIn (bytes / 2) w′) (holds-one report at (numbers (r .list)) (numbers (listIn (bytes / 2) w′))
+        (omega (arith, length-numbers (r .list), length-numbers (listIn (bytes / 2) w′), length-gather (listOf w′) (bytes / 2), r .all)) (r .stand) (read .read))
+
+    wide : Within scratch w w′
+    wide = within-wider scratch (omega arith) (omega arith) (read .kept)
+
+    pub reason-falls : (Rising (listIn (bytes / 2) w′) k → ⊥) → Deciding (Reasoned w report at bytes q) w w′ false
+    reason-falls h = record { kept = wide; exact = is-not (λ r. h (rw (list-is r) at (reason-rising (K .first) (r .reason) (ℕ-discrete (q .s .0) (q .t .0))))) }
+
+    module _ (short : bytes / 2 ≤ 2 * (q .size - 1)) (rise : Rising (listIn (bytes / 2) w′) k) where
+      pub reason-named : Named w′ q (bytes / 2)
+      reason-named = record {
+        posed = posed-kept wide (K .posed);
+        listed = record {
+          loaded = kept-loaded wide (K .posed .past .loaded);
+          short = omega (arith, K .posed .past .loaded .few);
+          named = λ i l. let r = rising-named (listOf w′) (bytes / 2) k rise i l in (r .0, omega (arith, r .1, K .early, K .posed .early));
+        };
+        few = omega (arith, K .posed .past .loaded .few);
+        ordered = listIn (bytes / 2) w′;
+        rising = rise .rising;
+        many = length-gather (listOf w′) (bytes / 2);
+        same = λ x. (λ m. m, λ m. m);
+      }
+
+      pub reason-served : {w″ : List ℕ} {answer : Bool} → Deciding (Sufficient w′ q (bytes / 2)) w′ w″ answer → Deciding (Reasoned w report at bytes q) w w″ answer
+      reason-served {w″} {answer} d =
+          let x : (answer ≡ true) ↔ Serving (recordsIn (q .len) w) (q .s .0) (q .t .0) (listIn (bytes / 2) w′) = rw (kept-records wide (q .len)) at (d .exact) in
+          record {
+            kept = within-trans wide (d .kept);
+            exact = (
+              λ e. record {
+                list = listIn (bytes / 2) w′;
+                all = omega (arith, length-gather (listOf w′) (bytes / 2));
+                stand = read .read;
+                reason = reason-tested (K .first) (K .early) (small-records (K .posed .past .loaded)) rise (x .0 e .entails) (x .0 e .unspared .unspared);
+              },
+              λ r.
+                  let s : Serving (recordsIn (q .len) w) (q .s .0) (q .t .0) (r .list) = record { entails = r .reason .entails; unspared = record { unspared = r .reason .unspared } } in
+                  x .1 (rw (list-is r) at s),
+            );
+          }
+
+-- A reason that was found: where the bytes say it, they are those of a reason, and no test is left.
+pub own-few : {N : ℕ} {rs : List Rec} {R s t : ℕ} (n : ℕ) (w : List ℕ) → N ≤ mostTags → Reason N rs R s t (listIn n w) → n ≤ mostWaiting
+own-few n w l r = omega (arith, reason-short r, length-gather (listOf w) n)
+
+module _ {w w′ report : List ℕ} {at bytes : ℕ} {q : Question} (f : Within scratch w w′) where
+  pub own-not : Assuring (Reasoned w report at bytes q) w w′ false
+  own-not = record { kept = f; sure = λ e. let z : _≡_ {A = ℕ} 0 1 = cc in absurd (omega arith) }
+
+  pub own-found : (n : ℕ) {answer : Bool} → 2 * n ≡ bytes → Reason (q .size) (recordsIn (q .len) w) (q .before) (q .s .0) (q .t .0) (listIn n w′)
+      → (answer ≡ true) ↔ Holds report at (numbers (listIn n w′)) → Assuring (Reasoned w report at bytes q) w w′ answer
+  own-found n e r h = record { kept = f; sure = λ t. record { list = listIn n w′; all = omega (arith, length-gather (listOf w′) n); stand = h .0 t; reason = r } }
+
+pub reason-sure : {A : Type 0} {w w′ : List ℕ} {answer : Bool} → Assuring A w w′ answer → answer ≡ true → Deciding A w w′ true
+reason-sure h e = record { kept = h .kept; exact = (λ t. h .sure e, λ a. refl) }
+
+-- Where they do not say it, the tests go on with the table that the finding left.
+pub known-kept : {w w′ : List ℕ} {q : Question} {k : ℕ} → Within scratch w w′ → Known w q k → Known w′ q k
+known-kept {q = q} f K = record { posed = posed-kept f (K .posed); early = K .early; first = rw (kept-records f (q .len)) (K .first) }
+
+pub reason-later : {w w′ w″ report : List ℕ} {at bytes : ℕ} {q : Question} {answer : Bool} → Within scratch w w′ → Deciding (Reasoned w′ report at bytes q) w′ w″ answer
+    → Deciding (Reasoned w report at bytes q) w w″ answer
+reason-later {q = q} f d = record {
+  kept = within-trans f (d .kept);
+  exact = (
+    λ t. let r = d .exact .0 t in record { list = r .list; all = r .all; stand = r .stand; reason = rw (kept-records f (q .len)) at (r .reason) },
+    λ r. d .exact .1 (record { list = r .list; all = r .all; stand = r .stand; reason = rw (kept-records f (q .len)) (r .reason) }),
+  );
+}
+
+-- The field of a reason.
+pub record Whole (report : List ℕ) (at kind size : ℕ) : Type 0 where
+  pub body : List ℕ
+  pub long : length body ≡ size
+  pub holds : Holds report at (field kind body)
+
+pub front-whole : {report : List ℕ} {at kind size : ℕ} {r : Front} → FrontAt report at r → r ≡ Field kind size → Whole report at kind size
+front-whole {report} {at} {kind} {size} (whole {kind = k} body h) e = let q : k ≡ kind = cc in record { body = body; long = cc; holds = rw (← q) h }
+front-whole (none h) e = let z : _≡_ {A = ℕ} 0 1 = cc in absurd (omega arith)
+
+pub whole-room : {report : List ℕ} {at kind size : ℕ} → at ≤ length report → Whole report at kind size → at + 3 + size ≤ length report
+whole-room {report} {at} {kind} {size} l f = omega (arith, field-room report at kind (f .body) l (f .holds), f .long)
+
+fields-one : (report : List ℕ) (at k k′ : ℕ) (b b′ : List ℕ) → Holds report at (field k b) → Holds report at (field k′ b′) → (k ≡ k′) × (b ≡ b′)
+fields-one report at k k′ b b′ h g = let r = field-one k k′ b b′ (drop (at + length (field k b)) report) (drop (at + length (field k′ b′)) report) (sym h ∙ g) in (r .0, r .1)
+
+module _ (w report : List ℕ) (at : ℕ) (q : Question) {k : ℕ} (K : Known w q k) where
+  -- A right field for the question is that of a reason.
+  reason-found : Stands (ExplainAnswer w q) (drop at report) → (L : List ℕ) × Reason (q .size) (recordsIn (q .len) w) (q .before) (q .s .0) (q .t .0) L × Holds report at (field 132 (numbers L))
+  reason-found x =
+      let r = found report at x in
+      let b = because-field (more-of (λ n l. omega (arith, K .early)) (K .first .then)) (r .is) in
+      (b .list, b .reason, rw (b .is) at (r .holds))
+
+  pub because-cut : {r : Front} → FrontAt report at r → r ≡ Cut → Explained w w report at q Wrong
+  because-cut f e = record { kept = within-refl w; right = wrong (λ x. let b = reason-found x in go f e (b .0) (b .2)) }
+    where
+      go : {r : Front} → FrontAt report at r → r ≡ Cut → (L : List ℕ) → Holds report at (field 132 (numbers L)) → ⊥
+      go (whole body h) e L g = let z : _≡_ {A = ℕ} 0 1 = cc in omega arith
+      go (none h) e L g = h 132 (numbers L) g
+
+  module _ {kind size : ℕ} (f : Whole report at kind size) where
+    pub because-other : kind ≢ 132 → Explained w w report at q Wrong
+    because-other h = record { kept = within-refl w; right = wrong (λ x. let r = reason-found x in h (fields-one report at kind 132 (f .body) (numbers (r .0)) (f .holds) (r .2) .0)) }
+
+    pub because-right : {w′ : List ℕ} → kind ≡ 132 → Within scratch w w′ → Reasoned w report (at + 3) size q → Explained w w′ report at q (To (at + 3 + size))
+    because-right {w′} e g r =
+        let b : f .body ≡ numbers (r .list) = holds-one report (at + 3) (f .body) (numbers (r .list)) (f .long ∙ sym (r .all) ∙ sym (length-numbers (r .list))) (field-body report at kind (f .body) (f .holds)) (r .stand) in
+        let h : Holds report at (field 132 (numbers (r .list))) = rw (b, e) at (f .holds) in
+        record { kept = g; right = to {p = at + 3 + size} (because (r .reason)) h (omega (arith, length-field 132 (numbers (r .list)), length-numbers (r .list), r .all)) }
+
+    pub because-wrong : {w′ : List ℕ} → Within scratch w w′ → (Reasoned w report (at + 3) size q → ⊥) → Explained w w′ report at q Wrong
+    because-wrong {w′} g h = record { kept = g; right = wrong (λ x. let r = reason-found x in go (r .0) (r .1) (r .2) (fields-one report at kind 132 (f .body) (numbers (r .0)) (f .holds) (r .2) .1)) }
+      where
+        go : (L : List ℕ) → Reason (q .size) (recordsIn (q .len) w) (q .before) (q .s .0) (q .t .0) L → Holds report at (field 132 (numbers L)) → f .body ≡ numbers L → ⊥
+        go L r b e = h (record { list = L; all = sym (length-numbers L) ∙ sym (ap length e) ∙ f .long; stand = field-body report at 132 (numbers L) b; reason = r })

@@ -1,0 +1,128 @@
+// Whether the right answer to an explain stands at a place of a report, over the table that the closure left. Document 01, "Reasons" and "The job
+// and the report". Rests on moment, answer_ask, report, report_read, report_numbers, reason, reason_order and reason_test.
+ghost use Prim.Native.Nat.{_+_, _≤_};
+ghost use lib.ListN.{length};
+ghost use Rattle.table.specs.Map.{recordsIn};
+ghost use Rattle.moment.specs.Posed.{Posed, Deciding};
+ghost use Rattle.judge_explain.specs.Right.{Came, Assuring, Explained, Reasoned, Known};
+use answer_ask::Passed;
+use moment::Question;
+use reason::Answer;
+use reason_order::rises;
+use reason_test::serves;
+use report_read::Front;
+
+// The first k such that s and t are equal by records 1 to k, or a number above the records before the question.
+fn came(work: &[u16], q: Question) -> usize
+    requires { ⌜ Posed (now work) q ⌝ }
+    ensures { λ k. ⌜ Came (recordsIn (q .len) (now (work .entry))) (q .before) (q .s .0) (q .t .0) k ⌝ }
+{
+    let s = q.s;
+    let t = q.t;
+    if s.0 == t.0 {
+        return 0;
+    }
+    let b = moment::met(work, s, t);
+    if b >= meaning::MOST_TAGS {
+        return q.before + 1;
+    }
+    moment::made(work, b)
+}
+
+// Whether so many bytes at a place are the numbers of the reason that is found here. Another reason may stand there where they are not.
+fn is_own(report: &[u8], at: usize, bytes: usize, work: &mut [u16], q: Question) -> bool
+    requires { ⌜ Posed (now work) q × (at + bytes ≤ length (now report)) ⌝ }
+    ensures { λ r. ⌜ Assuring (Reasoned (now (work .entry)) (now (report .entry)) at bytes q) (now (work .entry)) (now (work .exit)) r ⌝ }
+{
+    match reason::explain(work, q.size, q.len, q.joins, q.before, q.s, q.t) {
+        Answer::Apart => false,
+        Answer::Because(count) => {
+            if 2 * count != bytes {
+                return false;
+            }
+            report_numbers::is_list(report, at, work, count)
+        }
+    }
+}
+
+// Whether so many bytes at a place are numbers that meet each point of a reason, where `first` is the first k.
+fn meets(
+    report: &[u8],
+    at: usize,
+    bytes: usize,
+    work: &mut [u16],
+    q: Question,
+    first: usize,
+) -> bool
+    requires { ⌜ Known (now work) q first × (at + bytes ≤ length (now report)) ⌝ }
+    ensures { λ r. ⌜ Deciding (Reasoned (now (work .entry)) (now (report .entry)) at bytes q) (now (work .entry)) (now (work .exit)) r ⌝ }
+{
+    if bytes % 2 != 0 {
+        return false;
+    }
+    let count = bytes / 2;
+    if count > 2 * (q.size - 1) {
+        return false;
+    }
+    report_numbers::read_reason(report, at, work, count);
+    if rises(work, count, first) {
+        serves(work, count, q)
+    } else {
+        false
+    }
+}
+
+// Whether so many bytes at a place are the numbers of a reason, where `first` is the first k. To find one costs no more than to test one,
+// so one that is found again is not tested.
+fn is_reason(
+    report: &[u8],
+    at: usize,
+    bytes: usize,
+    work: &mut [u16],
+    q: Question,
+    first: usize,
+) -> bool
+    requires { ⌜ Known (now work) q first × (at + bytes ≤ length (now report)) ⌝ }
+    ensures { λ r. ⌜ Deciding (Reasoned (now (work .entry)) (now (report .entry)) at bytes q) (now (work .entry)) (now (work .exit)) r ⌝ }
+{
+    if is_own(report, at, bytes, work, q) {
+        return true;
+    }
+    meets(report, at, bytes, work, q, first)
+}
+
+// Whether a reason stands at a place, where `first` is the first k.
+fn because(report: &[u8], at: usize, work: &mut [u16], q: Question, first: usize) -> Passed
+    requires { ⌜ Known (now work) q first × (at ≤ length (now report)) ⌝ }
+    ensures { λ r. ⌜ Explained (now (work .entry)) (now (work .exit)) (now (report .entry)) at q r ⌝ }
+{
+    match report_read::front_at(report, at) {
+        Front::Cut => Passed::Wrong,
+        Front::Field(kind, bytes) => {
+            if kind != report::BECAUSE {
+                return Passed::Wrong;
+            }
+            if is_reason(report, at + 3, bytes, work, q, first) {
+                Passed::To(at + 3 + bytes)
+            } else {
+                Passed::Wrong
+            }
+        }
+    }
+}
+
+// Whether the answer to an explain stands at a place: a reason, or that the equality does not follow.
+pub fn explained(report: &[u8], at: usize, work: &mut [u16], q: Question) -> Passed
+    requires { ⌜ Posed (now work) q × (at ≤ length (now report)) ⌝ }
+    ensures { λ r. ⌜ Explained (now (work .entry)) (now (work .exit)) (now (report .entry)) at q r ⌝ }
+{
+    let first = came(work, q);
+    if first <= q.before {
+        return because(report, at, work, q, first);
+    }
+    if report_read::is_apart(report, at) {
+        Passed::To(at + 3)
+    } else {
+        Passed::Wrong
+    }
+}

@@ -1,3 +1,0 @@
-pub mod Clear
-pub mod Lent
-pub mod Begun

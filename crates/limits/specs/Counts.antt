@@ -1,7 +1,0 @@
--- What stands before a field, as the code counts it.
--- Assumes nothing.
-use Rattle.job.specs.Items.{Moment}
-use Rattle.limits.specs.declared.Counts.{Counts}
-
-abbrev pub momentOf : Counts → Moment
-momentOf c = record { records = c .records; questions = c .questions }

@@ -1,0 +1,4 @@
+pub mod Uniting
+pub mod Rows
+pub mod Views
+pub mod Steps

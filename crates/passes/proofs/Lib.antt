@@ -1,3 +1,0 @@
-pub mod Rows
-pub mod Views
-pub mod Steps

@@ -1,0 +1,284 @@
+-- Crossing the newest join between two tags leaves two pairs that older joins bring together, one on each side; a join of two
+-- applications leaves their argument pairs. So marks that support themselves still do when a join is marked after these. Assumes nothing.
+use Prim.Native.Nat.{ℕ, suc, _+_, _≤_, _<_}
+use native.Mathlib.Omega.{arith}
+use native.Mathlib.Decide.{ℕ-discrete, decLt}
+use mathlib.Core.Path.{_≡_, refl, sym, _∙_, ap, subst, fun-ext}
+use mathlib.Core.Logic.{_≢_, _⊎_, inl, inr}
+use mathlib.Core.Bool.{Bool, true}
+use mathlib.Core.List.{List}
+use lib.Dec.{T, eqb}
+use borrow.Author.Tests.{eq-eqb}
+use lib.ListN.{length, set}
+use Rattle.meaning.specs.Following.{Rec}
+use Rattle.meaning.specs.Joins.{Join, Linked, over, Supported, put}
+use Rattle.meaning.specs.Walk.{Walked}
+use Rattle.meaning.specs.Needed.{Crosses, Aim, tags, join, Needed, near-side, far-side, across, itself, lefts, rights}
+use Rattle.meaning.proofs.Forest.{newest}
+use Rattle.meaning.proofs.Log.{linked-refl, linked-sym, linked-trans, linked-more, linked-up, put-hit, put-miss}
+use Rattle.meaning.proofs.Walk.{walk-same, walk-by, walk-cong}
+use Rattle.meaning.specs.Limits.{mostRecords, mostTags}
+use Rattle.table.specs.Map.{leftOf, rightOf, parentOf, ageOf, firstOf, secondOf, markOf, joinAt, recordsIn, Within}
+use Rattle.table.proofs.Frame.{seen-in, within-refl, within-trans, within-wider, within-set}
+use Rattle.table.specs.Past.{Past}
+use Rattle.table.specs.Places.{LIST, Large, MARKS, SAVED, allOf, fromTo}
+use Rattle.moment.specs.Meeting.{leaderAt, Met}
+use Rattle.moment.specs.Holding.{Holds, marked}
+use Rattle.reason_follow.specs.Tracing.{Together, Crossed, Sided, Caused, Traced, Unmarked}
+use Rattle.moment.proofs.Kept.{kept-parents, kept-ages, kept-records, kept-joins, kept-past, kept-holds, holds-fewer}
+use Rattle.moment.proofs.Known.{join-one, join-two}
+
+-- The numbers of a join that is there are in their ranges.
+pub record Ranged (w : List ℕ) (b : ℕ) : Type 0 where
+  pub age : b < mostTags
+  pub first : firstOf w b ≤ mostRecords
+  pub second : secondOf w b ≤ mostRecords
+  pub u-tag : joinAt w b .u < mostTags
+  pub v-tag : joinAt w b .v < mostTags
+
+pub holds-ranged : {w : List ℕ} {b : ℕ} → Holds w (suc b) → Ranged w b
+holds-ranged {w} {b} h = go (ℕ-discrete (secondOf w b) 0)
+  where
+    l : b < h .joins
+    l = omega (arith, h .reach)
+
+    go : Dec (secondOf w b ≡ 0) → Ranged w b
+    go (yes z) =
+        let o = join-one (h .past) b l z in
+        record {
+          age = omega (arith, h .reach, h .past .low, h .past .loaded .few);
+          first = omega (arith, o .first .most, h .past .loaded .most);
+          second = omega arith;
+          u-tag = omega (arith, o .first .small .0, h .past .loaded .few);
+          v-tag = omega (arith, o .first .small .1, h .past .loaded .few);
+        }
+    go (no z) =
+        let o = join-two (h .past) b l z in
+        record {
+          age = omega (arith, h .reach, h .past .low, h .past .loaded .few);
+          first = omega (arith, o .first .most, h .past .loaded .most);
+          second = omega (arith, o .second .most, h .past .loaded .most);
+          u-tag = omega (arith, o .first .small .2, h .past .loaded .few);
+          v-tag = omega (arith, o .second .small .2, h .past .loaded .few);
+        }
+
+-- Whichever end has the leader of s is on its side.
+module _ {w : List ℕ} {s t b : ℕ} (X : Crossed w s t b) where
+  crossing : ((leaderAt w b s ≡ leaderAt w b (joinAt w b .u)) × (leaderAt w b (joinAt w b .v) ≡ leaderAt w b t))
+      ⊎ ((leaderAt w b s ≡ leaderAt w b (joinAt w b .v)) × (leaderAt w b (joinAt w b .u) ≡ leaderAt w b t))
+  crossing = newest (joinAt w) (X .holds .joins) (parentOf w) (ageOf w) mostTags (X .holds .past .history) b (omega (arith, X .holds .reach)) s t
+      (X .met .joined (holds-ranged (X .holds) .age)) (X .met .apart b (omega arith))
+
+  pub sided-over : leaderAt w b s ≡ leaderAt w b (joinAt w b .u) → Sided w s t b (joinAt w b .u) (joinAt w b .v)
+  sided-over q = elim crossing [
+    | inl h ↦ record { near-tag = holds-ranged (X .holds) .u-tag; far-tag = holds-ranged (X .holds) .v-tag; from = h .0; onto = h .1; either = inl (refl, refl) }
+    | inr h ↦ absurd (X .met .apart b (omega arith) (q ∙ h .1))
+  ]
+
+  pub sided-back : leaderAt w b s ≢ leaderAt w b (joinAt w b .u) → Sided w s t b (joinAt w b .v) (joinAt w b .u)
+  sided-back q = elim crossing [
+    | inl h ↦ absurd (q (h .0))
+    | inr h ↦ record { near-tag = holds-ranged (X .holds) .v-tag; far-tag = holds-ranged (X .holds) .u-tag; from = h .0; onto = h .1; either = inr (refl, refl) }
+  ]
+
+-- The argument pairs of a join of two applications.
+pub record Pairs (w : List ℕ) (b : ℕ) : Type 0 where
+  pub lefts : Together w (leftOf w (firstOf w b)) (leftOf w (secondOf w b)) b
+  pub rights : Together w (rightOf w (firstOf w b)) (rightOf w (secondOf w b)) b
+
+pub holds-pairs : {w : List ℕ} {b : ℕ} → Holds w (suc b) → secondOf w b ≢ 0 → Pairs w b
+holds-pairs {w} {b} h z =
+    let l : b < h .joins = omega (arith, h .reach) in
+    let o = join-two (h .past) b l z in
+    let a = h .past .history .then b (omega arith) in
+    record {
+      lefts = record { holds = holds-fewer (omega arith) h; from = omega (arith, o .first .small .0, h .past .loaded .few); to = omega (arith, o .second .small .0, h .past .loaded .few); equal = a .labels _ _ (o .lefts) };
+      rights = record { holds = holds-fewer (omega arith) h; from = omega (arith, o .first .small .1, h .past .loaded .few); to = omega (arith, o .second .small .1, h .past .loaded .few); equal = a .labels _ _ (o .rights) };
+    }
+
+-- Marks alone change nothing of the rest.
+wider : {w w′ : List ℕ} → Within (allOf MARKS) w w′ → Within (fromTo (LIST .at) (SAVED .at)) w w′
+wider f = within-wider (fromTo (LIST .at) (SAVED .at)) (omega arith) (omega arith) f
+
+pub kept-leader : {w w′ : List ℕ} → Within (allOf MARKS) w w′ → (a x : ℕ) → leaderAt w′ a x ≡ leaderAt w a x
+kept-leader f a x = rw (kept-parents (wider f), kept-ages (wider f))
+
+pub kept-ends : {w w′ : List ℕ} → Within (allOf MARKS) w w′ → joinAt w′ ≡ joinAt w
+kept-ends f = kept-joins (wider f)
+
+pub kept-still : {w w′ : List ℕ} {a : ℕ} → Within (allOf MARKS) w w′ → Holds w a → Holds w′ a
+kept-still f = kept-holds (wider f)
+
+pub kept-together : {w w′ : List ℕ} {s t b : ℕ} → Within (allOf MARKS) w w′ → Together w s t b → Together w′ s t b
+kept-together {s = s} {t = t} {b = b} f h = record { holds = kept-still f (h .holds); from = h .from; to = h .to; equal = rw (kept-leader f b s, kept-leader f b t) (h .equal) }
+
+supported-moved : {rs rs′ : List Rec} {e e′ : ℕ → Join} {m : ℕ → Bool} {n : ℕ} → rs ≡ rs′ → e ≡ e′ → Supported rs′ e′ m n → Supported rs e m n
+supported-moved p q S = rw (p, q) S
+
+linked-moved : {e : ℕ → Join} {m : ℕ → Bool} {n x y x′ y′ : ℕ} → x ≡ x′ → y ≡ y′ → Linked e m n x y → Linked e m n x′ y′
+linked-moved p q i = rw (← p, ← q) i
+
+-- What a later call did, said of the table at the start.
+walked-at : {w w₁ w₂ : List ℕ} {b s t : ℕ} {aim : Aim} → Within (allOf MARKS) w w₁ → Traced w₁ w₂ b s t aim → (N len n : ℕ) → Past N len w n → b ≤ n → Supported (recordsIn len w) (joinAt w) (marked w₁) n
+    → Walked (recordsIn len w) (joinAt w) n (marked w₁) (marked w₂) b s t
+walked-at {w} {w₁} f r N len n P l S =
+    rw (kept-records (wider f) len, kept-joins (wider f)) at (r .walked N len n (kept-past (wider f) P) l (supported-moved (kept-records (wider f) len) (kept-joins (wider f)) S))
+
+needed-at : {w w₁ w₂ : List ℕ} {b s t : ℕ} {aim : Aim} → Within (allOf MARKS) w w₁ → Traced w₁ w₂ b s t aim → (N len n : ℕ) → Past N len w n → b ≤ n → (a : ℕ) → T (marked w₂ a)
+    → T (marked w₁ a) ⊎ Needed (recordsIn len w) (joinAt w) aim a
+needed-at {w} {w₁} f r N len n P l a h = rw (kept-records (wider f) len, kept-joins (wider f)) at (r .needed N len n (kept-past (wider f) P) l a h)
+
+-- The newest join between s and t, in the words of the mathematics.
+crosses-of : {w : List ℕ} {s t b near far : ℕ} → Met w s t b → Sided w s t b near far → (N len n : ℕ) → Past N len w n → b ≤ n → Crosses (joinAt w) s t b near far
+crosses-of {w} {s} {t} {b} {near} {far} M d N len n P l =
+    let A = P .history .then b l in
+    record { apart = λ j. M .apart b (omega arith) (A .labels s t j); from = A .joins s near (d .from); onto = A .joins far t (d .onto); either = d .either }
+
+pub marked-set : (w : List ℕ) (b : ℕ) → b < mostTags → Large w → marked (set w (MARKS .at + b) 1) ≡ put b true (marked w)
+marked-set w b l h = fun-ext (λ a. go a (ℕ-discrete a b))
+  where
+    mark : markOf (set w (MARKS .at + b) 1) ≡ put b 1 (markOf w)
+    mark = seen-in MARKS w b 1 l (omega arith)
+
+    go : (a : ℕ) → Dec (a ≡ b) → marked (set w (MARKS .at + b) 1) a ≡ put b true (marked w) a
+    go a (yes q) = ap (λ (f : ℕ → ℕ). eqb (f a) 1) mark ∙ rw (q, put-hit b 1 (markOf w), put-hit b true (marked w)) refl
+    go a (no q) = ap (λ (f : ℕ → ℕ). eqb (f a) 1) mark ∙ rw (put-miss b 1 (markOf w) a q, put-miss b true (marked w) a q) refl
+
+-- One mark more is of the join itself.
+marked-more : (w : List ℕ) (b : ℕ) → b < mostTags → Large w → (rs : List Rec) (e : ℕ → Join) (a : ℕ) → T (marked (set w (MARKS .at + b) 1) a) → T (marked w a) ⊎ Needed rs e (join b) a
+marked-more w b l g rs e a h = go (subst (λ (x : Bool). T x) (ap (λ (f : ℕ → Bool). f a) (marked-set w b l g)) h) (ℕ-discrete a b)
+  where
+    go : T (put b true (marked w) a) → Dec (a ≡ b) → T (marked w a) ⊎ Needed rs e (join b) a
+    go i (yes q) = inr (rw q itself)
+    go i (no q) = inl (rw (put-miss b true (marked w) a q) at i)
+
+-- What each way through the two functions leaves.
+pub traced-same : (w : List ℕ) (limit s t : ℕ) → s ≡ t → Traced w w limit s t (tags s t)
+traced-same w limit s t q = record { kept = within-refl w; walked = λ N len n P l S. rw q (walk-same limit t S); needed = λ N len n P l a h. inl h }
+
+pub traced-cross : {w w₁ w₂ w₃ : List ℕ} {s t b near far limit : ℕ} → suc b ≤ limit → Met w s t b → Sided w s t b near far → Traced w w₁ b s near (tags s near) → Traced w₁ w₂ b far t (tags far t)
+    → Traced w₂ w₃ (suc b) (joinAt w₂ b .u) (joinAt w₂ b .v) (join b) → Traced w w₃ limit s t (tags s t)
+traced-cross {w} {w₁} {w₂} {w₃} {s} {t} {b} {near} {far} {limit} l M d x y z = record {
+  kept = within-trans (x .kept) (within-trans (y .kept) (z .kept));
+  walked = all;
+  needed = λ N len n P m a h.
+      let c = crosses-of M d N len n P (omega arith) in
+      elim (needed-at two z N len n P (omega arith) a h) [
+        | inl h₂ ↦ elim (needed-at (x .kept) y N len n P (omega arith) a h₂) [
+          | inl h₁ ↦ elim (x .needed N len n P (omega arith) a h₁) [ inl h₀ ↦ inl h₀ | inr i ↦ inr (near-side c i) ]
+          | inr i ↦ inr (far-side c i)
+        ]
+        | inr i ↦ inr (across c i)
+      ];
+}
+  where
+    two : Within (allOf MARKS) w w₂
+    two = within-trans (x .kept) (y .kept)
+
+    all : (N len n : ℕ) → Past N len w n → limit ≤ n → Supported (recordsIn len w) (joinAt w) (marked w) n → Walked (recordsIn len w) (joinAt w) n (marked w) (marked w₃) limit s t
+    all N len n P m S =
+        let p = x .walked N len n P (omega arith) S in
+        let q = walked-at (x .kept) y N len n P (omega arith) (p .supported) in
+        let r = walked-at two z N len n P (omega arith) (q .supported) in
+        let e : Linked (joinAt w) (marked w₃) (suc b) (joinAt w b .u) (joinAt w b .v) = linked-moved (ap (λ (f : ℕ → Join). f b .u) (kept-ends two)) (ap (λ (f : ℕ → Join). f b .v) (kept-ends two)) (r .linked) in
+        let i : Linked (joinAt w) (marked w₃) (suc b) s near = linked-up (suc b) (omega arith) (linked-more (λ a h. r .more a (q .more a h)) (p .linked)) in
+        let j : Linked (joinAt w) (marked w₃) (suc b) far t = linked-up (suc b) (omega arith) (linked-more (λ a h. r .more a h) (q .linked)) in
+        record {
+          more = λ a h. r .more a (q .more a (p .more a h));
+          supported = r .supported;
+          linked = linked-up limit l (linked-trans i (linked-trans (across (d .either) e) j));
+        }
+      where
+        across : ((near ≡ joinAt w b .u) × (far ≡ joinAt w b .v)) ⊎ ((near ≡ joinAt w b .v) × (far ≡ joinAt w b .u)) → Linked (joinAt w) (marked w₃) (suc b) (joinAt w b .u) (joinAt w b .v)
+            → Linked (joinAt w) (marked w₃) (suc b) near far
+        across (inl k) e = rw (k .0, k .1) e
+        across (inr k) e = rw (k .0, k .1) (linked-sym e)
+
+pub taken-known : (w : List ℕ) (b : ℕ) → markOf w b ≡ 1 → Traced w w (suc b) (joinAt w b .u) (joinAt w b .v) (join b)
+taken-known w b q = record {
+  kept = within-refl w;
+  needed = λ N len n P l a h. inl h;
+  walked = λ N len n P l S. record { more = λ a h. h; supported = S; linked = over {n = b} (rw (eq-eqb (markOf w b) 1 q) tt) (linked-refl b (joinAt w b .u)) (linked-refl b (joinAt w b .v)) };
+}
+
+pub taken-one : (w : List ℕ) (b : ℕ) → b < mostTags → Large w → secondOf w b ≡ 0 → Traced w (set w (MARKS .at + b) 1) (suc b) (joinAt w b .u) (joinAt w b .v) (join b)
+taken-one w b k g z = record {
+  needed = λ N len n P l. marked-more w b k g (recordsIn len w) (joinAt w);
+  kept = within-set (allOf MARKS) w (MARKS .at + b) 1 (omega arith) (omega arith);
+  walked = λ N len n P l S. let o = join-one P b l z in
+      rw (marked-set w b k g) (walk-by b (suc b) (omega arith) (o .why) (o .at) (walk-same b (joinAt w b .u) S) (walk-same b (joinAt w b .v) S));
+}
+
+pub taken-two : {w w₁ w₂ : List ℕ} {b : ℕ} → b < mostTags → Large w → secondOf w b ≢ 0
+    → Traced w w₁ b (leftOf w (firstOf w b)) (leftOf w (secondOf w b)) (tags (leftOf w (firstOf w b)) (leftOf w (secondOf w b)))
+    → Traced w₁ w₂ b (rightOf w (firstOf w b)) (rightOf w (secondOf w b)) (tags (rightOf w (firstOf w b)) (rightOf w (secondOf w b)))
+    → Traced w (set w₂ (MARKS .at + b) 1) (suc b) (joinAt w b .u) (joinAt w b .v) (join b)
+taken-two {w} {w₁} {w₂} {b} k g z x y = record {
+  needed = λ N len n P l a h.
+      let o = join-two P b l z in
+      elim (marked-more w₂ b k (omega (arith, two .size)) (recordsIn len w) (joinAt w) a h) [
+        | inl h₂ ↦ elim (needed-at (x .kept) y N len n P (omega arith) a h₂) [
+          | inl h₁ ↦ elim (x .needed N len n P (omega arith) a h₁) [ inl h₀ ↦ inl h₀ | inr i ↦ inr (lefts (o .why) (o .at) (o .at′) i) ]
+          | inr i ↦ inr (rights (o .why) (o .at) (o .at′) i)
+        ]
+        | inr i ↦ inr i
+      ];
+  kept = within-trans two (within-set (allOf MARKS) w₂ (MARKS .at + b) 1 (omega arith) (omega arith));
+  walked = λ N len n P l S.
+      let o = join-two P b l z in
+      let p = x .walked N len n P (omega arith) S in
+      let q = walked-at (x .kept) y N len n P (omega arith) (p .supported) in
+      rw (marked-set w₂ b k (omega (arith, two .size))) (walk-cong b (suc b) (omega arith) (o .why) (o .at) (o .at′) (walk-same b (joinAt w b .u) S) (walk-same b (joinAt w b .v) S) p q);
+}
+  where
+    two : Within (allOf MARKS) w w₂
+    two = within-trans (x .kept) (y .kept)
+
+-- What a call needs of its own callees.
+pub crossed-of : {w : List ℕ} {s t limit b : ℕ} → Together w s t limit → Met w s t b → (b < limit) × Crossed w s t b
+crossed-of {w} {s} {t} {limit} {b} h m = go (decLt b limit)
+  where
+    go : Dec (b < limit) → (b < limit) × Crossed w s t b
+    go (yes l) = (l, record { holds = holds-fewer l (h .holds); from = h .from; to = h .to; met = m })
+    go (no l) = absurd (m .apart limit (omega arith) (h .equal))
+
+pub together-near : {w : List ℕ} {s t b near far : ℕ} → Crossed w s t b → Sided w s t b near far → Together w s near b
+together-near x d = record { holds = holds-fewer (omega arith) (x .holds); from = x .from; to = d .near-tag; equal = d .from }
+
+pub together-far : {w : List ℕ} {s t b near far : ℕ} → Crossed w s t b → Sided w s t b near far → Together w far t b
+together-far x d = record { holds = holds-fewer (omega arith) (x .holds); from = d .far-tag; to = x .to; equal = d .onto }
+
+pub caused-lefts : {w : List ℕ} {b q a a′ c c′ : ℕ} → Holds w (suc b) → Caused w b q a a′ c c′ → q ≢ 0 → Together w a a′ b
+caused-lefts h k z = rw (k .a-is, k .a′-is) (holds-pairs h (λ e. z (k .second-is ∙ e)) .lefts)
+
+pub caused-rights : {w : List ℕ} {b q a a′ c c′ : ℕ} → Holds w (suc b) → Caused w b q a a′ c c′ → q ≢ 0 → Together w c c′ b
+caused-rights h k z = rw (k .c-is, k .c′-is) (holds-pairs h (λ e. z (k .second-is ∙ e)) .rights)
+
+pub caused-one : {w w′ : List ℕ} {b q a a′ c c′ : ℕ} → Holds w (suc b) → Caused w b q a a′ c c′ → q ≡ 0 → w′ ≡ set w (MARKS .at + b) 1 → Traced w w′ (suc b) (joinAt w b .u) (joinAt w b .v) (join b)
+caused-one {w} {w′} {b} h k z e = rw e (taken-one w b (holds-ranged h .age) (h .past .loaded .long) (sym (k .second-is) ∙ z))
+
+pub caused-two : {w w₁ w₂ w′ : List ℕ} {b q a a′ c c′ : ℕ} → Holds w (suc b) → Caused w b q a a′ c c′ → q ≢ 0 → Traced w w₁ b a a′ (tags a a′) → Traced w₁ w₂ b c c′ (tags c c′)
+    → w′ ≡ set w₂ (MARKS .at + b) 1 → Traced w w′ (suc b) (joinAt w b .u) (joinAt w b .v) (join b)
+caused-two {w} {w₁} {w₂} {w′} {b} h k z x y e =
+    rw e (taken-two (holds-ranged h .age) (h .past .loaded .long) (λ i. z (k .second-is ∙ i)) (rw (k .a-is, k .a′-is) at x) (rw (k .c-is, k .c′-is) at y))
+
+-- Taking the marks off, one by one.
+pub unmarked-start : (w : List ℕ) → Unmarked w w 0
+unmarked-start w = record { kept = within-refl w; none = λ a l. absurd (omega arith) }
+
+pub unmarked-more : {w w₁ w₂ : List ℕ} {b : ℕ} → b < mostTags → Large w → w₂ ≡ set w₁ (MARKS .at + b) 0 → Unmarked w w₁ b → Unmarked w w₂ (suc b)
+unmarked-more {w} {w₁} {w₂} {b} l h e u = record {
+  kept = within-trans (u .kept) (rw e (within-set (allOf MARKS) w₁ (MARKS .at + b) 0 (omega arith) (omega arith)));
+  none = λ a k. ap (λ (f : ℕ → ℕ). f a) mark ∙ go a k (ℕ-discrete a b);
+}
+  where
+    mark : markOf w₂ ≡ put b 0 (markOf w₁)
+    mark = ap markOf e ∙ seen-in MARKS w₁ b 0 l (omega (arith, u .kept .size))
+
+    go : (a : ℕ) → a < suc b → Dec (a ≡ b) → put b 0 (markOf w₁) a ≡ 0
+    go a k (yes q) = rw q (put-hit b 0 (markOf w₁))
+    go a k (no q) = rw (put-miss b 0 (markOf w₁) a q) (u .none a (omega arith))
+
+-- Where no join is marked, the marked ones rest on each other.
+pub unmarked-supported : {w w′ : List ℕ} {n : ℕ} (rs : List Rec) (e : ℕ → Join) → Unmarked w w′ n → Supported rs e (marked w′) n
+unmarked-supported {w} {w′} rs e u a l t = absurd (rw (u .none a l) at t)

@@ -1,0 +1,4 @@
+pub mod Putting
+pub mod Walking
+pub mod Size
+pub mod Telling

@@ -1,0 +1,75 @@
+-- The numbers of a body are taken two bytes at a time, and are what a line of a reason has.
+-- Assumes nothing.
+use Prim.Native.Nat.{ℕ, suc, _+_, _-_, _/_, _≤_, _<_, min}
+use native.Mathlib.Omega.{arith}
+use mathlib.Core.Path.{_≡_, refl, sym, _∙_, ap}
+use mathlib.Core.List.{List, [], _∷_, _++_}
+use native.Mathlib.Decide.{decLe}
+use lib.ListN.{length, getD, take, drop, length-take, drop-of-length-le}
+use lib.Seq.{slice, slice-cons, slice-empty, length-slice, take-all}
+use Rattle.job_field.specs.Reading.{numberAt}
+use borrow.Author.Tests.{eq-eqb, ne-eqb}
+use Rattle.text_line.specs.Line.{parted, line, askLine}
+use Rattle.text_line.proofs.Parted.{parted-append}
+use Rattle.text_field.specs.Fields.{numbersIn, bodyOf, explainLine}
+
+pub length-numbers : (bytes : List ℕ) → length (numbersIn bytes) ≡ length bytes / 2
+unfolding numbersIn
+length-numbers [] = refl
+length-numbers (high ∷ []) = refl
+length-numbers (high ∷ low ∷ bytes) = omega (arith, length-numbers bytes)
+
+-- The numbers of a part of the report, one after the other, until fewer than two bytes are left.
+pub numbers-next : (report : List ℕ) (p stop : ℕ) → p + 2 ≤ stop → stop ≤ length report → parted (numbersIn (slice p stop report)) ≡ parted (numberAt report p ∷ []) ++ parted (numbersIn (slice (p + 2) stop report))
+unfolding numbersIn
+numbers-next report p stop h l =
+    let one : suc p ≡ p + 1 = omega arith in
+    let two : suc (p + 1) ≡ p + 2 = omega arith in
+    let second : slice (p + 1) stop report ≡ getD report (p + 1) 0 ∷ slice (p + 2) stop report = rw (← two) (slice-cons (p + 1) stop report 0 (omega arith) l) in
+    let both : slice p stop report ≡ getD report p 0 ∷ getD report (p + 1) 0 ∷ slice (p + 2) stop report = slice-cons p stop report 0 (omega arith) l ∙ rw (one, second) in
+    ap (λ (bytes : List ℕ). parted (numbersIn bytes)) both ∙ parted-append (numberAt report p ∷ []) (numbersIn (slice (p + 2) stop report))
+
+pub numbers-none : (report : List ℕ) (p stop : ℕ) → stop - p < 2 → stop ≤ length report → parted (numbersIn (slice p stop report)) ≡ []
+unfolding numbersIn parted
+numbers-none report p stop h l = short (slice p stop report) (rw (length-slice p stop report l) h)
+  where
+    short : (bytes : List ℕ) → length bytes < 2 → parted (numbersIn bytes) ≡ []
+    short [] h = refl
+    short (a ∷ []) h = refl
+    short (a ∷ b ∷ bytes) h = absurd (omega arith)
+
+-- The part of the report that is the first field's body, as far as it is there.
+pub body-slice : (report : List ℕ) (from stop : ℕ) → stop ≡ min (3 + numberAt report 1) (length report) → from ≡ min 3 stop → slice from stop report ≡ bodyOf report
+unfolding bodyOf
+body-slice report from stop e f = go (decLe 3 (length report)) (decLe (3 + numberAt report 1) (length report))
+  where
+    go : Dec (3 ≤ length report) → Dec (3 + numberAt report 1 ≤ length report) → slice from stop report ≡ drop 3 (take (3 + numberAt report 1) report)
+    go (yes l) (yes k) =
+        let three : from ≡ 3 = omega arith in
+        let size : stop ≡ 3 + numberAt report 1 = omega arith in
+        rw (three, size)
+    go (yes l) (no k) =
+        let three : from ≡ 3 = omega arith in
+        rw (three, take-all stop report (omega arith), take-all (3 + numberAt report 1) report (omega arith))
+    go (no l) k =
+        let same : from ≡ stop = omega arith in
+        let few : length (take (3 + numberAt report 1) report) ≤ 3 = rw (length-take (3 + numberAt report 1) report) (omega arith) in
+        rw (same, slice-empty stop report, drop-of-length-le (take (3 + numberAt report 1) report) few)
+
+pub length-body : (report : List ℕ) (from stop : ℕ) → stop ≡ min (3 + numberAt report 1) (length report) → from ≡ min 3 stop → (stop - from) / 2 ≡ length (numbersIn (bodyOf report))
+length-body report from stop e f = sym (length-numbers (bodyOf report) ∙ ap (λ (n : ℕ). n / 2) (ap length (sym (body-slice report from stop e f)) ∙ length-slice from stop report (omega arith)))
+
+pub explainLine-reason : (s t kind : ℕ) (ns : List ℕ) → kind ≡ 132 → line 69 (s ∷ t ∷ length ns ∷ ns) ≡ explainLine s t kind ns
+unfolding explainLine
+explainLine-reason s t kind ns e = rw (eq-eqb kind 132 e)
+
+pub explainLine-none : (s t kind : ℕ) (ns : List ℕ) → (kind ≡ 132 → ⊥) → line 78 (s ∷ t ∷ []) ≡ explainLine s t kind ns
+unfolding explainLine
+explainLine-none s t kind ns e = rw (ne-eqb kind 132 e)
+
+-- The lines over equal numbers are one: as lemmas, since the search for them among all that is known takes seconds.
+pub ask-as : {s s′ t t′ l l′ m m′ : ℕ} → s ≡ s′ → t ≡ t′ → l ≡ l′ → m ≡ m′ → askLine s t l m ≡ askLine s′ t′ l′ m′
+ask-as p q u v = cc
+
+pub explain-as : {s s′ t t′ : ℕ} (b : ℕ) (ns : List ℕ) → s ≡ s′ → t ≡ t′ → explainLine s t b ns ≡ explainLine s′ t′ b ns
+explain-as b ns p q = cc

@@ -1,0 +1,57 @@
+-- Document 01, "The program": tagcheck writes one line an item, fields parted by one space, decimal. The line of one item by the report from the
+-- item's field on, byte by byte.
+-- Assumes nothing.
+use Prim.Native.Nat.{ℕ, _+_, _*_}
+use mathlib.Core.Bool.{cond}
+use mathlib.Core.List.{List, [], _∷_}
+use lib.Dec.{eqb}
+use lib.ListN.{length, take, drop}
+use Rattle.job_field.specs.Items.{Question, ask, explain, Item, noted, posed}
+use Rattle.job_field.specs.Reading.{Field, bad, header, item, end, byteAt, numberAt}
+use Rattle.text_line.specs.Line.{line, askLine}
+
+-- The numbers of a body: two bytes each, high byte first.
+unfoldable pub numbersIn : List ℕ → List ℕ
+numbersIn [] = []
+numbersIn (high ∷ []) = []
+numbersIn (high ∷ low ∷ bytes) = (high * 256 + low) ∷ numbersIn bytes
+
+-- A field is one kind byte, a two-byte length, then the body. A byte that is not there counts as 0.
+unfoldable pub bodyOf : List ℕ → List ℕ
+bodyOf report = drop 3 (take (3 + numberAt report 1) report)
+
+-- `E s t k` and k record numbers, for a field of kind 84 hex (132); `N s t` (explain, does not follow).
+unfoldable pub explainLine : ℕ → ℕ → ℕ → List ℕ → List ℕ
+explainLine s t kind ns = cond (eqb kind 132) (line 69 (s ∷ t ∷ length ns ∷ ns)) (line 78 (s ∷ t ∷ []))
+
+-- The line of a question, with the report from its field on. A body's first two numbers stand at 3 and 5.
+abbrev pub questionLine : Question → List ℕ → List ℕ
+questionLine (ask s t) report = askLine s t (numberAt report 3) (numberAt report 5)
+questionLine (explain s t) report = explainLine s t (byteAt report 0) (numbersIn (bodyOf report))
+
+-- The line of an item: a note has none.
+abbrev pub lineOf : Item → List ℕ → List ℕ
+lineOf (noted n) report = []
+lineOf (posed q) report = questionLine q report
+
+-- The bytes of an item's field in the report: a question has one field, a note none.
+abbrev pub widthOf : Item → List ℕ → ℕ
+widthOf (noted n) report = 0
+widthOf (posed q) report = 3 + numberAt report 1
+
+-- `T classes idle`.
+unfoldable pub totalsLine : List ℕ → List ℕ
+totalsLine report = line 84 (numberAt report 3 ∷ numberAt report 5 ∷ [])
+
+-- What a field of the job adds to the text, with the report from its own field on, and how far it goes in the report.
+abbrev pub textAt : Field → List ℕ → List ℕ
+textAt (item i) report = lineOf i report
+textAt end report = totalsLine report
+textAt (bad n) report = []
+textAt (header H) report = []
+
+abbrev pub widthAt : Field → List ℕ → ℕ
+widthAt (item i) report = widthOf i report
+widthAt end report = 0
+widthAt (bad n) report = 0
+widthAt (header H) report = 0

@@ -1,0 +1,170 @@
+// What one field of a job adds to the text that tagcheck writes: the line of a question by its field of the report, and of the totals. Document 01,
+// "The program". Rests on meaning, job_field and text_line.
+ghost use mathlib.Core.Path.{_≡_};
+ghost use mathlib.Core.List.{_∷_};
+ghost use Prim.Native.Nat.{_+_, _≤_, min};
+ghost use lib.ListN.{length};
+ghost use lib.Seq.{slice};
+ghost use Rattle.job_field.specs.Reading.{byteAt, numberAt};
+ghost use Rattle.job_field.specs.Answer.{questionSaid, said};
+ghost use Rattle.text_line.specs.Line.{parted, line};
+ghost use Rattle.text_line.specs.Put.{Put};
+ghost use Rattle.text_field.specs.Fields.{numbersIn, bodyOf, explainLine, questionLine, totalsLine, textAt, widthAt};
+use job_field::Field;
+use job_field::Query;
+use meaning::Tag;
+use text_line::open_line;
+use text_line::put;
+use text_line::put_ask;
+use text_line::put_pair;
+use text_line::put_parted;
+
+fn wide(x: u16) -> usize
+    ensures { λ r. ⌜ r ≡ x ⌝ }
+{
+    x as usize
+}
+
+// A byte of the report; one that is not there counts as 0.
+fn byte(report: &[u8], at: usize) -> u8
+    ensures { λ r. ⌜ r ≡ byteAt (now (report .entry)) at ⌝ }
+{
+    if at < report.len() { report[at] } else { 0 }
+}
+
+// A number of the report: two bytes, high byte first.
+fn number(report: &[u8], at: usize) -> u16
+    requires { ⌜ at ≤ length (now report) + 5 ⌝ }
+    ensures { λ r. ⌜ r ≡ numberAt (now (report .entry)) at ⌝ }
+{
+    let high = byte(report, at) as u16;
+    let low = byte(report, at + 1) as u16;
+    high * 256 + low
+}
+
+// The bytes of the report's first field that are there.
+fn width(report: &[u8]) -> usize
+    ensures { λ r. ⌜ r ≡ min (3 + numberAt (now (report .entry)) 1) (length (now (report .entry))) ⌝ }
+{
+    let whole = 3 + wide(number(report, 1));
+    if whole < report.len() {
+        whole
+    } else {
+        report.len()
+    }
+}
+
+// Where the first field's body begins, at the third byte or where the report stops before it.
+fn body_start(stop: usize) -> usize
+    ensures { λ r. ⌜ r ≡ min 3 stop ⌝ }
+{
+    if stop < 3 { stop } else { 3 }
+}
+
+// The numbers of a part of the report, each with the space before it.
+fn put_numbers(report: &[u8], from: usize, stop: usize, out: &mut [u8], at: usize) -> usize
+    requires { ⌜ stop ≤ length (now report) ⌝ }
+    requires { ⌜ from ≤ stop ⌝ }
+    requires { ⌜ at ≤ length (now out) + 1 ⌝ }
+    ensures { λ r. ⌜ Put (parted (numbersIn (slice from stop (now (report .entry))))) (now (out .entry)) at (now (out .exit)) r ⌝ }
+{
+    let mut p = from;
+    let mut next = at;
+    while stop - p >= 2 {
+        next = put_parted(out, next, wide(number(report, p)));
+        p += 2;
+    }
+    next
+}
+
+// The line of a reason: the numbers of the body of the report's first field, as far as they are there.
+fn put_reason(report: &[u8], s: usize, t: usize, out: &mut [u8], at: usize) -> usize
+    ensures { λ r. do
+      let ns = numbersIn (bodyOf (now (report .entry)))
+      ⌜ Put (line 69 (s ∷ t ∷ length ns ∷ ns)) (now (out .entry)) at (now (out .exit)) r ⌝ }
+{
+    let stop = width(report);
+    let from = body_start(stop);
+    let next = open_line(out, at, b'E', s, t);
+    let third = put_parted(out, next, (stop - from) / 2);
+    let last = put_numbers(report, from, stop, out, third);
+    put(out, last, b'\n')
+}
+
+// The line of an explain: a reason where the report's first field is of kind 84 hex.
+fn put_explain(report: &[u8], s: usize, t: usize, out: &mut [u8], at: usize) -> usize
+    ensures { λ r. do
+      let ns = numbersIn (bodyOf (now (report .entry)))
+      ⌜ Put (explainLine s t (byteAt (now (report .entry)) 0) ns) (now (out .entry)) at (now (out .exit)) r ⌝ }
+{
+    if byte(report, 0) == 0x84 {
+        put_reason(report, s, t, out, at)
+    } else {
+        put_pair(out, at, b'N', s, t)
+    }
+}
+
+// The line of the totals.
+fn put_totals(report: &[u8], out: &mut [u8], at: usize) -> usize
+    ensures { λ r. ⌜ Put (totalsLine (now (report .entry))) (now (out .entry)) at (now (out .exit)) r ⌝ }
+{
+    put_pair(
+        out,
+        at,
+        b'T',
+        wide(number(report, 3)),
+        wide(number(report, 5)),
+    )
+}
+
+// The number of a tag, to be written.
+fn shown(tag: Tag) -> usize
+    ensures { λ r. ⌜ r ≡ tag .0 ⌝ }
+{
+    wide(tag.0)
+}
+
+// The line of a question, with the report from its own answer on.
+fn put_question(q: Query, report: &[u8], out: &mut [u8], at: usize) -> usize
+    requires { ⌜ at ≤ length (now out) + 1 ⌝ }
+    ensures { λ r. ⌜ Put (questionLine (questionSaid q) (now (report .entry))) (now (out .entry)) at (now (out .exit)) r ⌝ }
+{
+    match q {
+        Query::Ask(s, t) => put_ask(
+            out,
+            at,
+            shown(s),
+            shown(t),
+            wide(number(report, 3)),
+            wide(number(report, 5)),
+        ),
+        Query::Explain(s, t) => put_explain(report, shown(s), shown(t), out, at),
+    }
+}
+
+// What a field of the job adds to the text, with the report from the field's own answer on.
+pub fn put_field(field: Field, report: &[u8], out: &mut [u8], at: usize) -> usize
+    requires { ⌜ at ≤ length (now out) + 1 ⌝ }
+    ensures { λ r. ⌜ Put (textAt (said field) (now (report .entry))) (now (out .entry)) at (now (out .exit)) r ⌝ }
+{
+    match field {
+        Field::Bad(_) => at,
+        Field::Header(_) => at,
+        Field::Noted(_) => at,
+        Field::Posed(q) => put_question(q, report, out, at),
+        Field::End => put_totals(report, out, at),
+    }
+}
+
+// How far a field of the job goes in the report: over the field of a question, as far as it is there.
+pub fn passed(field: Field, report: &[u8]) -> usize
+    ensures { λ r. ⌜ r ≡ min (widthAt (said field) (now (report .entry))) (length (now (report .entry))) ⌝ }
+{
+    match field {
+        Field::Bad(_) => 0,
+        Field::Header(_) => 0,
+        Field::Noted(_) => 0,
+        Field::Posed(_) => width(report),
+        Field::End => 0,
+    }
+}

@@ -1,0 +1,30 @@
+-- `text_line::put` meets its contract. Within the room one byte is stored; past its end a store would change nothing, and none is made.
+-- Assumes nothing.
+use borrow.Author.Needs.{needs}
+use mathlib.Core.Path.{sym}
+use native.Mathlib.Omega.{arith}
+use lib.Seq.{set-out}
+use Rattle.text_line.proofs.put.Statement.{statement}
+use Rattle.text_line.proofs.put.Tie as tie
+
+slice-write-out : tie.Need-slice-write-out
+slice-write-out c = search needs
+
+add-result : tie.Need-add-result
+add-result c = search needs
+
+add-result-2 : tie.Need-add-result-2
+add-result-2 c = search needs
+
+same-length : tie.Need-same-length
+same-length c = search needs
+
+returns : tie.Need-returns
+returns c = search needs
+
+returns-2 : tie.Need-returns-2
+returns-2 c = record { bytes = sym (set-out _ _ _ (c .if1 .left)); place = omega arith }
+
+pub put-spec : {M : Type 1} → statement M
+put-spec =
+    tie.close (tie.spec slice-write-out add-result add-result-2 same-length returns returns-2)
