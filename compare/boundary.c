@@ -1,4 +1,5 @@
-/* Calls both functions of the static library on the inspector's job, with dirty tables and a dirty room, and checks every answer, every byte and every number. */
+/* Calls both functions of the static library on the inspector's job, with dirty tables and a dirty room, and checks every answer, every byte and every number. It is
+ * C and C++ alike. */
 #include <stdio.h>
 #include <stdlib.h>
 #include <string.h>
@@ -6,7 +7,7 @@
 #include "../include/haltzurme.h"
 
 static uint8_t job[50000], room[200];
-static uint16_t work[32768 + 5];
+static uint16_t work[HALTZURME_WORK + 5];
 
 static void expect(int holds, const char *what) {
     if (!holds) {
@@ -17,7 +18,7 @@ static void expect(int holds, const char *what) {
 
 static void soil(void) {
     for (size_t i = 0; i < sizeof room; i++) room[i] = (uint8_t)(i * 7 + 1);
-    for (size_t i = 0; i < 32768 + 5; i++) work[i] = (uint16_t)(i * 31 + 3);
+    for (size_t i = 0; i < HALTZURME_WORK + 5; i++) work[i] = (uint16_t)(i * 31 + 3);
 }
 
 static int soiled_room(size_t from) {
@@ -27,13 +28,13 @@ static int soiled_room(size_t from) {
 }
 
 static int soiled_work(size_t from) {
-    for (size_t i = from; i < 32768 + 5; i++)
+    for (size_t i = from; i < HALTZURME_WORK + 5; i++)
         if (work[i] != (uint16_t)(i * 31 + 3)) return 0;
     return 1;
 }
 
 static int zero_work(void) {
-    for (size_t i = 0; i < 32768; i++)
+    for (size_t i = 0; i < HALTZURME_WORK; i++)
         if (work[i]) return 0;
     return 1;
 }
@@ -47,24 +48,24 @@ int main(int count, char **words) {
     expect(length == 89, "the inspector's job has 89 bytes");
 
     soil();
-    expect(haltzurme_run(job, length, room, 69, work, 32768 + 5, &place, &size) == 0 && place == 0 && size == 49, "69 bytes of room are enough, and the report has 49");
-    expect(soiled_room(49) && zero_work() && soiled_work(32768), "the room behind the report and the table's rest are as they were");
+    expect(haltzurme_run(job, length, room, 69, work, HALTZURME_WORK + 5, &place, &size) == HALTZURME_ACCEPTED && place == 0 && size == 49, "69 bytes of room are enough, and the report has 49");
+    expect(soiled_room(49) && zero_work() && soiled_work(HALTZURME_WORK), "the room behind the report and the table's rest are as they were");
     uint8_t report[50];
     memcpy(report, room, 49);
     report[49] = 0;
 
     soil();
-    expect(haltzurme_recheck(job, length, report, 49, work, 32768, &place) == 0 && place == 0, "the report passes the recheck");
-    expect(zero_work() && soiled_work(32768), "the recheck clears the named places");
+    expect(haltzurme_recheck(job, length, report, 49, work, HALTZURME_WORK, &place) == HALTZURME_ACCEPTED && place == 0, "the report passes the recheck");
+    expect(zero_work() && soiled_work(HALTZURME_WORK), "the recheck clears the named places");
     soil();
-    expect(haltzurme_recheck(job, length, report, 50, work, 32768, &place) == 10 && place == 49, "a spare byte is at fault where it stands");
+    expect(haltzurme_recheck(job, length, report, 50, work, HALTZURME_WORK, &place) == HALTZURME_UNSOUND && place == 49, "a spare byte is at fault where it stands");
     soil();
-    expect(haltzurme_run(job, length, room, 68, work, 32768, &place, &size) == 9 && place == 0 && size == 0, "68 bytes of room give 9");
+    expect(haltzurme_run(job, length, room, 68, work, HALTZURME_WORK, &place, &size) == HALTZURME_ROOM && place == 0 && size == 0, "68 bytes of room give 9");
     expect(soiled_room(0) && zero_work(), "and leave the room");
     soil();
-    expect(haltzurme_run(job, length, room, 69, work, 32767, &place, &size) == 2 && soiled_room(0) && soiled_work(0), "32,767 numbers give 2, and nothing changes");
-    expect(haltzurme_run(job, 43009, room, 69, work, 32768, &place, &size) == 1 && soiled_room(0) && soiled_work(0), "43,009 bytes give 1, and nothing changes");
-    expect(haltzurme_run(job, 0, room, 69, work, 32768, &place, &size) == 3 && place == 0 && soiled_room(0) && zero_work(), "an empty job is refused by 3 at 0");
+    expect(haltzurme_run(job, length, room, 69, work, HALTZURME_WORK - 1, &place, &size) == HALTZURME_NARROW && soiled_room(0) && soiled_work(0), "32,767 numbers give 2, and nothing changes");
+    expect(haltzurme_run(job, HALTZURME_LONGEST_JOB + 1, room, 69, work, HALTZURME_WORK, &place, &size) == HALTZURME_LONG && soiled_room(0) && soiled_work(0), "43,009 bytes give 1, and nothing changes");
+    expect(haltzurme_run(job, 0, room, 69, work, HALTZURME_WORK, &place, &size) == HALTZURME_SHORT && place == 0 && soiled_room(0) && zero_work(), "an empty job is refused by 3 at 0");
     puts("boundary: ok");
     return 0;
 }

@@ -1,20 +1,75 @@
-/* Haltzurme from C. Link with target/staticlib/libhaltzurme_c.a, which `rt staticlib haltzurme_c` writes (x86-64).
+/* Haltzurme from C and C++. Link with target/staticlib/libhaltzurme_c.a, which `rt staticlib haltzurme_c` writes (x86-64); `./tagcheck --install DIR` copies both.
  *
- * Both functions take any contents and any lengths, and answer the documents' number: 0 accepted (recheck: the report is sound), 1 the job is longer than 43,008 bytes,
- * 2 the work table is shorter than 32,768 numbers, 3 to 8 the job is refused, 9 the room is smaller than needed (run), 10 the report is unsound (recheck),
- * 11, 12 or 13 the first, second or third tag of a field is N or more, at the tag's own first byte (document 02, No. 2).
- * After 1 and 2 nothing lent has changed; after any other answer the first 32,768 numbers of the work table are zero and the rest is as it was.
- * Nothing checks these declarations against the Rattle source, crates/haltzurme_c/src/lib.rt: keep them alike. */
+ * Both functions take any contents and any lengths, and answer one of the documents' numbers. After HALTZURME_LONG and HALTZURME_NARROW nothing lent has changed; after any
+ * other answer the first HALTZURME_WORK numbers of the work table are zero and the rest is as it was.
+ *
+ * What C must see to, since no proof can:
+ *   - No pointer is null, also where its length is 0, and each points to as many bytes or numbers as its length says.
+ *   - `work` is aligned as a uint16_t is, `place` and `size` as a size_t is. Bytes need no alignment.
+ *   - What is written (the room, the work table, *place, *size) overlaps nothing else that is passed. The job and the report, which are only read, may overlap each other.
+ * Nothing is kept between two calls, so that threads may call at the same time with tables of their own.
+ *
+ * Nothing checks these declarations against the Rattle source, crates/haltzurme_c/src/lib.rt, but compare/boundary, which runs both: keep them alike. */
 #ifndef HALTZURME_H
 #define HALTZURME_H
 
 #include <stddef.h>
 #include <stdint.h>
 
+#ifdef __cplusplus
+extern "C" {
+#endif
+
+/* The numbers of an answer, and the place of each. */
+enum haltzurme_number {
+    HALTZURME_ACCEPTED = 0, /* the run: accepted; the recheck: the report is sound. Place 0 */
+    HALTZURME_LONG = 1,     /* the job is longer than HALTZURME_LONGEST_JOB. Place 0 */
+    HALTZURME_NARROW = 2,   /* the work table is shorter than HALTZURME_WORK. Place 0 */
+    HALTZURME_SHORT = 3,    /* the job ends inside a field or before the end field. From here to 8: the field's first byte */
+    HALTZURME_KIND = 4,     /* a kind unknown or out of its place */
+    HALTZURME_LENGTH = 5,   /* a wrong length for the kind */
+    HALTZURME_RANGE = 6,    /* N is 0 or above HALTZURME_MOST_TAGS */
+    HALTZURME_MANY = 7,     /* a record or a question too many */
+    HALTZURME_BEHIND = 8,   /* a byte behind the end field */
+    HALTZURME_ROOM = 9,     /* the run: the room is smaller than needed. Place 0 */
+    HALTZURME_UNSOUND = 10, /* the recheck: the report is at fault. The first byte of the first field at fault */
+    HALTZURME_FIRST_TAG = 11,  /* the first tag of a field is N or more. From here to 13: the tag's own first byte */
+    HALTZURME_SECOND_TAG = 12, /* the second tag of a field is N or more */
+    HALTZURME_THIRD_TAG = 13   /* the third tag of a field is N or more */
+};
+
+/* The limits of document 01. */
+enum haltzurme_limit {
+    HALTZURME_MOST_TAGS = 1000,
+    HALTZURME_MOST_RECORDS = 4000,
+    HALTZURME_MOST_QUESTIONS = 1000,
+    HALTZURME_LONGEST_JOB = 43008,      /* bytes */
+    HALTZURME_LONGEST_REPORT = 3999007, /* bytes that are enough room for every job */
+    HALTZURME_WORK = 32768              /* numbers of the work table */
+};
+
+/* The kinds of a field, of a job and of a report. */
+enum haltzurme_kind {
+    HALTZURME_TAGS = 0x10,
+    HALTZURME_EQUATION = 0x01,
+    HALTZURME_APPLICATION = 0x02,
+    HALTZURME_ASK = 0x03,
+    HALTZURME_EXPLAIN = 0x04,
+    HALTZURME_END = 0x7F,
+    HALTZURME_LED = 0x83,
+    HALTZURME_REASON = 0x84,
+    HALTZURME_APART = 0x85,
+    HALTZURME_TOTALS = 0x8F
+};
+
 /* Runs a job. On 0 the report stands at the front of the room and *size is its length; on a refusal the room is unchanged, *size is 0 and *place says where. */
 uint8_t haltzurme_run(const uint8_t *job, size_t job_length, uint8_t *room, size_t room_length, uint16_t *work, size_t work_length, size_t *place, size_t *size);
 
 /* Rechecks a report, which is not changed. On 10 *place is the first byte of the first field at fault. */
 uint8_t haltzurme_recheck(const uint8_t *job, size_t job_length, const uint8_t *report, size_t report_length, uint16_t *work, size_t work_length, size_t *place);
+
+#ifdef __cplusplus
+}
+#endif
 
 #endif

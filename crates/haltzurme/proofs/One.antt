@@ -7,17 +7,19 @@ use mathlib.Core.Path.{_≡_, refl, sym, _∙_, ap₂}
 use mathlib.Core.Logic.{_⊎_, inl, inr}
 use mathlib.Core.List.{List, [], _∷_, _++_}
 use lib.ListN.{length, getD, drop}
+use Rattle.meaning.specs.Following.{UpTo, Leader}
 use Rattle.meaning.proofs.Decide.{leader-one}
 use Rattle.meaning.proofs.Laws.{classes-one, idles-one, reason-follows}
 use Rattle.meaning.specs.Limits.{namedNumbers, namedPlaces}
 use Rattle.job_field.specs.Items.{Head, Matter, matterOf, Moment, start, after, ask, Item, posed, Reading, refused, accepted, neededRoom}
+use Rattle.job_field.specs.Reading.{reading}
 use Rattle.records.specs.declared.Record.{Record}
 use Rattle.records.specs.Table.{blank, Blanked}
 use Rattle.report.specs.Report.{numbers, field, led, because, apart, Totalled, total, Sound, totals, passed, answered}
 use Rattle.call_look.specs.Clear.{Cleared}
 use Rattle.call_look.specs.Lent.{Lent}
 use Rattle.haltzurme.specs.Run.{Ran, long, narrow, unread, cramped, done}
-use Rattle.haltzurme.specs.Alike.{Alike, same, reasoned, OneRun, equal, chosen}
+use Rattle.haltzurme.specs.Alike.{Alike, reasoned, OneRun, equal, chosen}
 use Rattle.haltzurme.specs.Alike as alike
 
 -- Two lists of one length whose first k members agree, and what lies behind them, are one.
@@ -37,19 +39,20 @@ blanked-one {t} {a} {b} c d = list-one blank namedPlaces b a (c .size ∙ sym (d
 totalled-one : {M : Matter} {f g : List ℕ} → Totalled M f → Totalled M g → f ≡ g
 totalled-one (total c i) (total d j) = ap₂ (λ (x y : ℕ). field 143 (numbers (x ∷ y ∷ []))) (classes-one c d) (idles-one i j)
 
-led-alike : {M : Matter} {b : Moment} {s t l m l′ m′ : ℕ} {is : List Item} {bs bs′ : List ℕ} → l ≡ l′ → m ≡ m′ → Alike M (after (posed (ask s t)) b) is bs bs′
+led-alike : {M : Matter} {b : Moment} {s t l m l′ m′ : ℕ} {is : List Item} {bs bs′ : List ℕ} → Leader (UpTo (M .records) (b .records)) s l′ → Leader (UpTo (M .records) (b .records)) t m′
+    → l ≡ l′ → m ≡ m′ → Alike M (after (posed (ask s t)) b) is bs bs′
     → Alike M b (posed (ask s t) ∷ is) (field 131 (numbers (l ∷ m ∷ [])) ++ bs) (field 131 (numbers (l′ ∷ m′ ∷ [])) ++ bs′)
-led-alike {l′ = l′} {m′ = m′} p q a = rw (p, q) (alike.answered (field 131 (numbers (l′ ∷ m′ ∷ []))) a)
+led-alike h k p q a = rw (p, q) (alike.answered (led h k) a)
 
 -- Two sound reports of the same items differ at most in the choice among reasons.
 pub sound-alike : {M : Matter} {b : Moment} {is : List Item} {bs bs′ : List ℕ} → Sound M b is bs → Sound M b is bs′ → Alike M b is bs bs′
-sound-alike (totals t) (totals u) = same (totalled-one t u)
+sound-alike (totals t) (totals u) = rw (totalled-one t u) (alike.totals u)
 sound-alike (passed s) (passed u) = alike.passed (sound-alike s u)
-sound-alike (answered (led h k) s) (answered (led h′ k′) u) = led-alike (leader-one h h′) (leader-one k k′) (sound-alike s u)
+sound-alike (answered (led h k) s) (answered (led h′ k′) u) = led-alike h′ k′ (leader-one h h′) (leader-one k k′) (sound-alike s u)
 sound-alike (answered (because r) s) (answered (because r′) u) = reasoned r r′ (sound-alike s u)
 sound-alike (answered (because r) s) (answered (apart n) u) = absurd (n (reason-follows r))
 sound-alike (answered (apart n) s) (answered (because r) u) = absurd (n (reason-follows r))
-sound-alike (answered (apart n) s) (answered (apart n′) u) = alike.answered (field 133 []) (sound-alike s u)
+sound-alike (answered (apart n) s) (answered (apart n′) u) = alike.answered (apart n) (sound-alike s u)
 
 -- What is long enough is not short.
 pub lent-not : {job : List ℕ} {records : List Record} {work : List ℕ} → Lent job records work → (length records < namedPlaces) ⊎ (length work < namedNumbers) → ⊥
@@ -70,19 +73,19 @@ accepted-one e f = (cc, cc)
 room-one : {X : Reading} {H H′ : Head} {items items′ : List Item} → X ≡ accepted H items → X ≡ accepted H′ items′ → neededRoom H start items ≡ neededRoom H′ start items′
 room-one e f = let a = accepted-one e f in ap₂ (λ (x : Head) (is : List Item). neededRoom x start is) (a .0) (a .1)
 
-module _ {room : List ℕ} {records₁ records₂ : List Record} {work₁ work₂ : List ℕ} (r : records₁ ≡ records₂) (w : work₁ ≡ work₂) where
-  refused-same : {n p n′ p′ : ℕ} → n ≡ n′ → p ≡ p′ → OneRun room records₁ records₂ work₁ work₂ n p 0 room n′ p′ 0 room
+module _ {job room : List ℕ} {records₁ records₂ : List Record} {work₁ work₂ : List ℕ} (r : records₁ ≡ records₂) (w : work₁ ≡ work₂) where
+  refused-same : {n p n′ p′ : ℕ} → n ≡ n′ → p ≡ p′ → OneRun job room records₁ records₂ work₁ work₂ n p 0 room n′ p′ 0 room
   refused-same a b = rw (a, b) (equal r w)
 
-  done-same : {H H′ : Head} {items items′ : List Item} {bs bs′ : List ℕ} → H ≡ H′ → items ≡ items′ → Sound (matterOf H items) start items bs → Sound (matterOf H′ items′) start items′ bs′
-      → OneRun room records₁ records₂ work₁ work₂ 0 0 (length bs) (bs ++ drop (length bs) room) 0 0 (length bs′) (bs′ ++ drop (length bs′) room)
-  done-same {H} {H′} {items} {items′} {bs} {bs′} a b s s′ =
+  done-same : {H H′ : Head} {items items′ : List Item} {bs bs′ : List ℕ} → reading job ≡ accepted H items → H ≡ H′ → items ≡ items′ → Sound (matterOf H items) start items bs → Sound (matterOf H′ items′) start items′ bs′
+      → OneRun job room records₁ records₂ work₁ work₂ 0 0 (length bs) (bs ++ drop (length bs) room) 0 0 (length bs′) (bs′ ++ drop (length bs′) room)
+  done-same {H} {H′} {items} {items′} {bs} {bs′} e a b s s′ =
       let t : Sound (matterOf H items) start items bs′ = rw (a, b) s′ in
-      chosen r w (sound-alike s t)
+      chosen e r w (sound-alike s t)
 
 pub run-one : {job room : List ℕ} {records : List Record} {work : List ℕ} {n p l n′ p′ l′ : ℕ} {room₁ room₂ : List ℕ} {records₁ records₂ : List Record} {work₁ work₂ : List ℕ}
     → Ran job room records work n p l room₁ records₁ work₁ → Ran job room records work n′ p′ l′ room₂ records₂ work₂
-    → OneRun room records₁ records₂ work₁ work₂ n p l room₁ n′ p′ l′ room₂
+    → OneRun job room records₁ records₂ work₁ work₂ n p l room₁ n′ p′ l′ room₂
 run-one (long h) (long k) = equal refl refl
 run-one (long h) (narrow k t) = absurd (omega arith)
 run-one (long h) (unread i e m) = absurd (omega (arith, i .short))
@@ -111,4 +114,4 @@ run-one (done i e s r m) (unread i′ e′ m′) = absurd (clash e′ e)
 run-one (done i e s r m) (cramped i′ e′ s′ m′) = absurd (omega (arith, room-one e e′))
 run-one (done i e s r m) (done i′ e′ s′ r′ m′) =
     let a = accepted-one e e′ in
-    done-same (blanked-one (m .blanked) (m′ .blanked)) (cleared-one (m .cleared) (m′ .cleared)) (a .0) (a .1) r r′
+    done-same (blanked-one (m .blanked) (m′ .blanked)) (cleared-one (m .cleared) (m′ .cleared)) e (a .0) (a .1) r r′

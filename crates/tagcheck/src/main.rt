@@ -1,15 +1,14 @@
 // tagcheck: reads a job from standard input and writes its answers, one line an item, or the line of its refusal. Document 01, "The program".
-// It only reads, calls and writes: the run is haltzurme's, through haltzurme_own; the words are text's. Rests on these and on console.
+// It only reads, calls and writes: what it says of the job is saying's, and true. Rests on that and on console.
 use console::Got;
 use console::read_input;
 use console::write_error;
 use console::write_output_front;
-use haltzurme_own::run_job;
+use saying::answer_job;
 use text::Told;
-use text::tell_answer;
 
-// A text that is whole goes to standard output. Full is never answered here: 60,000 bytes of room and 206,014 of text are what text's contract
-// asks for that.
+// A text that is whole goes to standard output. Full is never answered here: 60,000 bytes of room and 206,014 of text are what the contract of
+// answer_job asks for that.
 fn write(text: &[u8], told: Told) {
     match told {
         Told::Whole(n) => {
@@ -31,8 +30,7 @@ fn serve(job: &[u8]) {
     let work: &mut [u16] = &mut work_space;
     let mut text_space = [0u8; 206014];
     let text: &mut [u8] = &mut text_space;
-    let ran = run_job(job, room, work);
-    let told = tell_answer(job, room, ran.number, ran.place, ran.length, text);
+    let told = answer_job(job, room, work, text);
     write(text, told);
 }
 

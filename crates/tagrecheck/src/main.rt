@@ -43,12 +43,10 @@ fn serve(job: &[u8], report: &[u8]) {
     answer(found.number, found.place);
 }
 
-// The bytes that were read are the report. One more than are kept says that the file is longer.
+// The bytes that were read are the report. More than were lent are never read: console's contract.
 fn with_report(job: &[u8], kept: &[u8], n: usize) {
-    if n < kept.len() {
+    if n <= kept.len() {
         serve(job, &kept[..n]);
-    } else {
-        write_error(b"tagrecheck: the report is longer than 300000 bytes\n");
     }
 }
 
@@ -57,7 +55,7 @@ fn read_file(argument: usize, room: &mut [u8]) -> Got {
     let mut path = io::buffer();
     let length = os::arg(argument, &mut path);
     if os::errno() != 0 {
-        write_error(b"tagrecheck: two file names are wanted, a job and a report\n");
+        os::fail(b"tagrecheck: a file's name");
         return Got::Broken;
     }
     let descriptor = os::open_read(&path[..length]);
@@ -70,10 +68,8 @@ fn read_file(argument: usize, room: &mut [u8]) -> Got {
     got
 }
 
-// Keeps at most 300,000 bytes of the report.
-fn with_job(job: &[u8]) {
-    let mut space = [0u8; 300001];
-    let kept: &mut [u8] = &mut space;
+// Reads the report to the front of the space that is lent.
+fn with_space(job: &[u8], kept: &mut [u8]) {
     let got = read_file(2, kept);
     match got {
         Got::Bytes(n) => {
@@ -85,6 +81,13 @@ fn with_job(job: &[u8]) {
     }
 }
 
+// Keeps at most 3,999,008 bytes of the report, one more than the longest sound one has: 1,000 reasons of 1,998 numbers and the totals. Of a longer one the first
+// field at fault begins among these, and is at fault there too.
+fn with_job(job: &[u8]) {
+    let mut space = [0u8; 3999008];
+    with_space(job, &mut space);
+}
+
 // The bytes that were read are the job. More than were lent are never read: console's contract.
 fn front(kept: &[u8], n: usize) {
     if n <= kept.len() {
@@ -93,7 +96,7 @@ fn front(kept: &[u8], n: usize) {
 }
 
 // Keeps at most 43,009 bytes of the job, one more than the longest job allowed.
-fn main() {
+fn recheck() {
     let mut space = [0u8; 43009];
     let kept: &mut [u8] = &mut space;
     let got = read_file(1, kept);
@@ -104,5 +107,14 @@ fn main() {
         Got::Broken => {
             write_error(b"tagrecheck: the job cannot be read\n");
         }
+    }
+}
+
+// Behind the program's own name stand two arguments and no third.
+fn main() {
+    if os::arg_count() == 3 {
+        recheck();
+    } else {
+        write_error(b"tagrecheck: two file names are wanted, a job and a report\n");
     }
 }

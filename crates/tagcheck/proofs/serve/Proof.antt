@@ -16,11 +16,8 @@ slice-aggregate-work c = sym (length-replicate {A = ℕ} 32768 0)
 slice-aggregate-text : tie.Need-slice-aggregate-text
 slice-aggregate-text c = sym (length-replicate {A = ℕ} 206014 0)
 
-run-job-requires : tie.Need-run-job-requires
-run-job-requires c κs = search needs
-
-tell-answer-requires : tie.Need-tell-answer-requires
-tell-answer-requires c κs = search needs
+answer-job-requires : tie.Need-answer-job-requires
+answer-job-requires c κs = search needs
 
 write-requires : tie.Need-write-requires
 write-requires c κs = search needs
@@ -35,7 +32,6 @@ serve-spec =
     slice-aggregate-room
     slice-aggregate-work
     slice-aggregate-text
-    run-job-requires
-    tell-answer-requires
+    answer-job-requires
     write-requires
     returns)

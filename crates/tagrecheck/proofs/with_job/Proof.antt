@@ -7,43 +7,14 @@ use mathlib.Core.Path.{sym}
 use Prim.Native.Nat.{ℕ}
 use lib.ListN.{length-replicate}
 
-slice-aggregate-kept : tie.Need-slice-aggregate-kept
-slice-aggregate-kept c = sym (length-replicate {A = ℕ} 300001 0)
+slice-aggregate-with-space : tie.Need-slice-aggregate-with-space
+slice-aggregate-with-space c = sym (length-replicate {A = ℕ} 3999008 0)
 
-read-file-requires : tie.Need-read-file-requires
-read-file-requires c κs = search needs
-
-enum-known-got : tie.Need-enum-known-got
-enum-known-got c = search needs
-
-with-report-requires : tie.Need-with-report-requires
-with-report-requires c κs = search needs
-
-enum-told : tie.Need-enum-told
-enum-told c = search needs
-
-slice-aggregate-write-error : tie.Need-slice-aggregate-write-error
-slice-aggregate-write-error c = search needs
-
-write-error-requires : tie.Need-write-error-requires
-write-error-requires c κs = search needs
+with-space-requires : tie.Need-with-space-requires
+with-space-requires c κs = search needs
 
 returns : tie.Need-returns
 returns c = search needs
 
-returns-2 : tie.Need-returns-2
-returns-2 c = search needs
-
 pub with-job-spec : {M : Type 1} → statement M
-with-job-spec =
-    tie.close
-    (tie.spec
-    slice-aggregate-kept
-    read-file-requires
-    enum-known-got
-    with-report-requires
-    enum-told
-    slice-aggregate-write-error
-    write-error-requires
-    returns
-    returns-2)
+with-job-spec = tie.close (tie.spec slice-aggregate-with-space with-space-requires returns)

@@ -13,12 +13,6 @@ slice-aggregate-serve c = sym (length-take-le _ _ (omega arith))
 serve-requires : tie.Need-serve-requires
 serve-requires c κs = search needs
 
-slice-aggregate-write-error : tie.Need-slice-aggregate-write-error
-slice-aggregate-write-error c = search needs
-
-write-error-requires : tie.Need-write-error-requires
-write-error-requires c κs = search needs
-
 returns : tie.Need-returns
 returns c = search needs
 
@@ -31,7 +25,5 @@ with-report-spec =
     (tie.spec
     slice-aggregate-serve
     serve-requires
-    slice-aggregate-write-error
-    write-error-requires
     returns
     returns-2)

@@ -1,0 +1,30 @@
+-- Document 01, "The program": what the lines that tagcheck writes for an accepted job mean, one case for each letter.
+-- Assumes nothing.
+use Prim.Native.Nat.{ℕ}
+use mathlib.Core.Logic.{_≢_}
+use mathlib.Core.List.{List, [], _∷_, _++_}
+use lib.ListN.{length}
+use Rattle.meaning.specs.Following.{Follows, UpTo, Leader}
+use Rattle.meaning.specs.Reasons.{Reason}
+use Rattle.meaning.specs.Totals.{Classes, Idles}
+use Rattle.job_field.specs.Items.{Matter, Note, Moment, after, ask, explain, Item, noted, posed}
+use Rattle.text_line.specs.Line.{line}
+
+-- The text of the items from a moment on: of the job's records, those before a question decide.
+pub data Meant (M : Matter) : Moment → List Item → List ℕ → Type 0 where
+  -- a note has no line
+  passed : {b : Moment} {n : Note} {is : List Item} {x : List ℕ} → Meant M (after (noted n) b) is x → Meant M b (noted n ∷ is) x
+  -- `S s t l`: ask, same, leader
+  same : {b : Moment} {s t l : ℕ} {is : List Item} {x : List ℕ} → Leader (UpTo (M .records) (b .records)) s l → Leader (UpTo (M .records) (b .records)) t l
+      → Meant M (after (posed (ask s t)) b) is x → Meant M b (posed (ask s t) ∷ is) (line 83 (s ∷ t ∷ l ∷ []) ++ x)
+  -- `D s t l m`: ask, different, both leaders
+  different : {b : Moment} {s t l m : ℕ} {is : List Item} {x : List ℕ} → Leader (UpTo (M .records) (b .records)) s l → Leader (UpTo (M .records) (b .records)) t m → l ≢ m
+      → Meant M (after (posed (ask s t)) b) is x → Meant M b (posed (ask s t) ∷ is) (line 68 (s ∷ t ∷ l ∷ m ∷ []) ++ x)
+  -- `E s t k` and k record numbers, which are a reason
+  because : {b : Moment} {s t : ℕ} {L : List ℕ} {is : List Item} {x : List ℕ} → Reason (M .head .size) (M .records) (b .records) s t L
+      → Meant M (after (posed (explain s t)) b) is x → Meant M b (posed (explain s t) ∷ is) (line 69 (s ∷ t ∷ length L ∷ L) ++ x)
+  -- `N s t`: explain, does not follow
+  apart : {b : Moment} {s t : ℕ} {is : List Item} {x : List ℕ} → (Follows (UpTo (M .records) (b .records)) s t → ⊥)
+      → Meant M (after (posed (explain s t)) b) is x → Meant M b (posed (explain s t) ∷ is) (line 78 (s ∷ t ∷ []) ++ x)
+  -- `T classes idle`: at the end of the job
+  totals : {b : Moment} {c i : ℕ} → Classes (M .head .size) (UpTo (M .records) (length (M .records))) c → Idles (M .head .size) (M .records) i → Meant M b [] (line 84 (c ∷ i ∷ []))
