@@ -1,5 +1,5 @@
 /* The closure of the tool's crate `history`, loop for loop in C, to hold the tool's time to and to count what it does. It reads a job that is accepted (nothing is checked)
-   from standard input, closes its records as `close` does, with no questions answered, and writes one line: records, joins, applications met, the longest chain that was gone through.
+   from standard input, closes its records as `close` does, with no questions answered, and writes one line: records, joins, applications met, the longest chain that was gone through, idle records.
 
      closure [-r TIMES] < JOB    -r: close the job that many times
 
@@ -18,7 +18,7 @@ static uint16_t parent[TAGS], /* of a tag that leads its class: the largest tag 
     first[TAGS], second[TAGS], when[TAGS];
 static uint16_t label[TAGS], more[RECORDS], other[RECORDS], chain[RECORDS], buckets[BUCKETS], uses[TAGS], shares[TAGS];
 static unsigned char job[JOB + 1];
-static long met, longest;
+static long met, longest, idle;
 
 static uint32_t key(int r)
 {
@@ -108,11 +108,10 @@ static int join(int joins, int waiting, int one, int another, uint16_t a, uint16
     return waiting;
 }
 
-/* The application at place j, the first that waits, is met; *waiting is the first then. The number of joins. */
-static int meet(int j, int joins, int places, int *waiting)
+/* What the chains have for the key x: a record, or 0. */
+static int look_up(uint32_t x)
 {
-    uint32_t x = key(j + 1);
-    int b = (int)(x % BUCKETS), p = buckets[b];
+    int p = buckets[x % BUCKETS];
     long far = 0;
     met++;
     while (p != 0 && key(p) != x) {
@@ -120,8 +119,14 @@ static int meet(int j, int joins, int places, int *waiting)
         far++;
     }
     longest = far > longest ? far : longest;
+    return p;
+}
+
+/* The application at place j, the first that waits, has the key x, for which p was found; *waiting is the first that waits then. The number of joins. */
+static int resolve(uint32_t x, int p, int j, int joins, int places, int *waiting)
+{
     if (p == 0) {
-        int q = above(b, j);
+        int b = (int)(x % BUCKETS), q = above(b, j);
         *waiting = chain[j] - WAITS;
         chain[j] = (uint16_t)(behind(b, q) + 1);
         lead(b, q, j + 1);
@@ -137,6 +142,12 @@ static int meet(int j, int joins, int places, int *waiting)
     return joins + 1;
 }
 
+static int meet(int j, int joins, int places, int *waiting)
+{
+    uint32_t x = key(j + 1);
+    return resolve(x, look_up(x), j, joins, places, waiting);
+}
+
 static int settle(int joins, int places, int waiting)
 {
     while (waiting != 0)
@@ -150,16 +161,21 @@ static int admit(int i, int joins)
     if (result[r] == EQUATION) {
         uint16_t a = label[left[r]], b = label[right[r]];
         chain[i] = 1;
+        idle += a == b;
         if (a == b)
             return joins;
         waiting = join(joins, 0, r, 0, a, b, r);
         joins++;
     } else {
+        uint32_t x = key(r);
+        int p = look_up(x);
+        idle += p != 0 && label[result[p]] == label[result[r]];
         more[i] = uses[left[r]];
         uses[left[r]] = (uint16_t)r;
         other[i] = shares[right[r]];
         shares[right[r]] = (uint16_t)r;
         chain[i] = WAITS;
+        joins = resolve(x, p, i, joins, r, &waiting);
     }
     return settle(joins, r, waiting);
 }
@@ -176,7 +192,7 @@ static int close_all(int records)
     memset(buckets, 0, sizeof buckets);
     memset(uses, 0, sizeof uses);
     memset(shares, 0, sizeof shares);
-    met = longest = 0;
+    met = longest = idle = 0;
     for (int i = 0; i < records; i++)
         joins = admit(i, joins);
     return joins;
@@ -201,6 +217,6 @@ int main(int argc, char **argv)
         }
     for (long i = 0; i < times; i++)
         joins = close_all(records);
-    printf("records %d joins %d met %ld longest %ld\n", records, joins, met, longest);
+    printf("records %d joins %d met %ld longest %ld idle %ld\n", records, joins, met, longest, idle);
     return fflush(stdout) != 0;
 }

@@ -185,6 +185,15 @@ static void add_use(struct closure *c, int x, int place)
     c->tail[x] = place;
 }
 
+/* Whether record r, which is to be merged, is idle by those before it (document 02, No. 6). */
+static int is_idle(struct closure *c, int r)
+{
+    if (!record[r].apply)
+        return c->rep[record[r].a] == c->rep[record[r].b];
+    struct entry *e = lookup_find(&c->lookup, (uint32_t)(c->rep[record[r].a] * TAGS + c->rep[record[r].b]));
+    return e->key >> 20 == c->lookup.generation && c->rep[record[e->record].c] == c->rep[record[r].c];
+}
+
 static void merge(struct closure *c, int r)
 {
     c->waiting = 0;
@@ -380,13 +389,11 @@ static size_t run(void)
             start(&all, RECORDS);
             break;
         case 0x01:
-        case 0x02: {
-            int classes = all.classes;
+        case 0x02:
             record[++records] = (struct record){at[0] == 2, two(body), two(body + 2), at[0] == 2 ? two(body + 4) : 0};
+            idle += is_idle(&all, records);
             merge(&all, records);
-            idle += all.classes == classes;
             break;
-        }
         case 0x03:
             out = put_field(out, 0x83, 2);
             out = put(out, all.low[all.rep[two(body)]]);

@@ -92,6 +92,38 @@ static int literal_classes(const struct relation *relation, int tags)
     return classes;
 }
 
+/* Document 02, No. 6: whether record k is idle by what `same` says of the records before it. An equation is if its two tags are
+   equal, an application if any earlier one has all three equal; every earlier one is tried. */
+static int is_idle(const struct job *job, int k, int (*same)(const void *state, int s, int t), const void *state)
+{
+    const struct record *r = &job->record[k];
+    if (!r->apply)
+        return same(state, r->a, r->b);
+    for (int j = 1; j < k; j++) {
+        const struct record *e = &job->record[j];
+        if (e->apply && same(state, r->c, e->c) && same(state, r->a, e->a) && same(state, r->b, e->b))
+            return 1;
+    }
+    return 0;
+}
+
+static int same_literally(const void *state, int s, int t)
+{
+    return literal_same(state, s, t);
+}
+
+static int same_by_use_lists(const void *state, int s, int t)
+{
+    return closure_same(state, s, t);
+}
+
+static void note_idle(struct history *history, int k, int idle, int joined_nothing)
+{
+    history->is_idle[k] = (unsigned char)idle;
+    history->idle += idle;
+    history->joined_nothing += joined_nothing;
+}
+
 static void history_literally(struct history *history, const struct job *job)
 {
     static struct relation after[LITERAL_RECORDS + 1]; /* after[k]: by the records 1 to k */
@@ -102,7 +134,8 @@ static void history_literally(struct history *history, const struct job *job)
         literal_close(&after[k], job->tags, job->record, numbers, k);
     }
     for (int k = 1; k <= job->records; k++)
-        history->idle += literal_classes(&after[k], job->tags) == literal_classes(&after[k - 1], job->tags);
+        note_idle(history, k, is_idle(job, k, same_literally, &after[k - 1]),
+                  literal_classes(&after[k - 1], job->tags) == literal_classes(&after[k], job->tags));
     history->classes = literal_classes(&after[job->records], job->tags);
     for (int i = 0; i < job->questions; i++) {
         const struct question *q = &job->question[i];
@@ -128,10 +161,10 @@ static void history_by_use_lists(struct history *history, const struct job *job)
     for (int i = 0; i <= job->questions; i++) {
         int before = i < job->questions ? job->question[i].before : job->records;
         while (k < before) {
-            int classes = closure_classes(closure);
+            int classes = closure_classes(closure), idle = is_idle(job, k + 1, same_by_use_lists, closure);
             k++;
             closure_add(closure, &job->record[k]);
-            history->idle += closure_classes(closure) == classes;
+            note_idle(history, k, idle, closure_classes(closure) == classes);
         }
         if (i == job->questions)
             break;
@@ -155,6 +188,7 @@ void history_of(struct history *history, const struct job *job, enum way way)
     history->way = way;
     history->classes = 0;
     history->idle = 0;
+    history->joined_nothing = 0;
     if (way == LITERALLY)
         history_literally(history, job);
     else

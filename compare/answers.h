@@ -1,5 +1,5 @@
-/* What the answers to a job must be (document 01, "Tags, records, following", "Reasons", "Idle records"), the judge of reports
-   and texts, and answers of this program's own. Rests on job.h and closure.h. */
+/* What the answers to a job must be (document 01, "Tags, records, following", "Reasons", and document 02, No. 6, on idle records),
+   the judge of reports and texts, and answers of this program's own. Rests on job.h and closure.h. */
 #ifndef ANSWERS_H
 #define ANSWERS_H
 
@@ -24,6 +24,8 @@ struct history {
     enum way way;
     struct moment moment[MOST_QUESTIONS];
     int classes, idle;
+    int joined_nothing;                    /* the records after which there are as many classes as before: no idle count (No. 6) */
+    unsigned char is_idle[MOST_RECORDS + 1]; /* by record number */
 };
 
 /* Literally for a small job, by use lists for another. */

@@ -172,6 +172,8 @@ static void totals(struct maker *m)
     with_field(m, "one idle record more", KIND_TOTALS, (int[]){classes, idle + 1}, 2);
     if (idle > 0)
         with_field(m, "one idle record fewer", KIND_TOTALS, (int[]){classes, idle - 1}, 2);
+    if (m->history->joined_nothing != idle)
+        with_field(m, "the records that joined nothing", KIND_TOTALS, (int[]){classes, m->history->joined_nothing}, 2);
     if (classes != idle)
         with_field(m, "totals swapped", KIND_TOTALS, (int[]){idle, classes}, 2);
 }

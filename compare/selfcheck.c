@@ -103,7 +103,10 @@ static void histories(void)
             continue;
         history_of(&history, &job, LITERALLY);
         history_of(&other_history, &job, BY_USE_LISTS);
-        int same = history.classes == other_history.classes && history.idle == other_history.idle;
+        int same = history.classes == other_history.classes && history.idle == other_history.idle &&
+                   history.joined_nothing == other_history.joined_nothing;
+        for (int k = 1; k <= job.records; k++)
+            same &= history.is_idle[k] == other_history.is_idle[k];
         for (int q = 0; q < job.questions; q++) {
             const struct moment *one = &history.moment[q], *two = &other_history.moment[q];
             same &= one->follows == two->follows && one->leader_s == two->leader_s && one->leader_t == two->leader_t &&
@@ -112,6 +115,50 @@ static void histories(void)
         expect(same, "the two histories differ");
     }
     done("the two histories");
+}
+
+/* ---- a job without its idle records ---- */
+
+static int same_sets(const struct relation *one, const struct relation *other, int tags)
+{
+    int same = 1;
+    for (int x = 0; x < tags; x++)
+        for (int y = 0; y < tags; y++)
+            same &= literal_same(one, x, y) == literal_same(other, x, y);
+    return same;
+}
+
+/* Leaving out all idle records changes no class at the end, and an idle record joins nothing; leaving out those that joined nothing
+   does change classes, in some job. */
+static void idle_records(void)
+{
+    static struct relation all, left, joining;
+    int numbers[LITERAL_RECORDS], busy[LITERAL_RECORDS], joiners[LITERAL_RECORDS], lost = 0;
+    for (long i = 0; i < 6000; i++) {
+        if (!make("small", 8, 112, i))
+            continue;
+        int kept = 0, made_joins = 0;
+        struct relation before, after;
+        history_of(&history, &job, LITERALLY);
+        for (int k = 1; k <= job.records; k++) {
+            numbers[k - 1] = k;
+            if (!history.is_idle[k])
+                busy[kept++] = k;
+            literal_close(&before, job.tags, job.record, numbers, k - 1);
+            literal_close(&after, job.tags, job.record, numbers, k);
+            if (!same_sets(&before, &after, job.tags)) {
+                expect(!history.is_idle[k], "an idle record joined something");
+                joiners[made_joins++] = k;
+            }
+        }
+        literal_close(&all, job.tags, job.record, numbers, job.records);
+        literal_close(&left, job.tags, job.record, busy, kept);
+        literal_close(&joining, job.tags, job.record, joiners, made_joins);
+        expect(same_sets(&all, &left, job.tags), "a class changed when the idle records were left out");
+        lost += !same_sets(&all, &joining, job.tags);
+    }
+    expect(lost > 0, "no job lost a join with the records that joined nothing");
+    done("jobs without their idle records");
 }
 
 /* ---- reasons against the definition over all subsets ---- */
@@ -324,7 +371,7 @@ static void named_lists(void)
 
 static void named_inspector(void)
 {
-    static const char lines[] = "N 2 3\nS 0 3 0\nE 0 3 5 1 2 3 4 5\nD 0 4 0 4\nE 2 1 3 1 2 4\nE 4 4 0\nT 4 2\n";
+    static const char lines[] = "N 2 3\nS 0 3 0\nE 0 3 5 1 2 3 4 5\nD 0 4 0 4\nE 2 1 3 1 2 4\nE 4 4 0\nT 4 0\n";
     struct bytes text = {0}, report = {0};
     made.length = 0;
     inspectors_job(&made);
@@ -352,6 +399,7 @@ int selfcheck(void)
     done("named cases");
     closures();
     histories();
+    idle_records();
     subsets();
     reports();
     texts();

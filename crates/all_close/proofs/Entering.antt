@@ -4,28 +4,29 @@ use Prim.Native.Nat.{ℕ, suc, _+_, _*_, _/_, _%_, _≤_, _<_}
 use native.Mathlib.Omega.{arith}
 use native.Mathlib.Numerals.{add-one}
 use mathlib.Core.Path.{_≡_, refl, sym, ap, _∙_, fun-ext}
-use mathlib.Core.Logic.{_≢_, _⊎_, inl, inr}
+use mathlib.Core.Logic.{_≢_, _↔_, _⊎_, inl, inr}
 use mathlib.Core.Bool.{Bool, true, false, cond, not}
 use mathlib.Core.List.{List, List·Memᴰ·eq-of-singleton}
 use lib.ListN.{length, set, length-set}
 use Rattle.meaning.specs.Joins.{put, equation}
 use Rattle.meaning.proofs.Log.{put-miss}
+use Rattle.meaning.specs.Totals.{Idle}
 use Rattle.meaning.specs.Limits.{mostRecords, mostTags}
-use Rattle.table.specs.Map.{leftOf, rightOf, labelOf, useOf, moreOf, stateOf, chainOf, waitOf, bucketOf, seen, Within}
+use Rattle.table.specs.Map.{leftOf, rightOf, labelOf, useOf, moreOf, stateOf, chainOf, waitOf, bucketOf, recordsIn, seen, Within}
 use Rattle.table.proofs.Frame.{seen-in, seen-out, within-trans, within-wider, within-set, gather-in, uses-least, uses-most, mores-least, mores-most}
 use Rattle.table_labels.proofs.Chain.{below}
 use Rattle.table.proofs.Kept.{lefts, rights}
 use Rattle.table.specs.Places.{BUCKETS, CHAIN, LABEL, Large, MORE, OTHER, Region, SHARES, USES, WAITS, behindColumns, behindJoins, filePart, moreAt, plain, useAt}
 use Rattle.all_index.specs.declared.Front.{Front}
-use Rattle.all_index.specs.State.{eqnAt, keyAt, Filing, Used, Queued, Indexed}
-use Rattle.all_index.proofs.Filing.{more, uses-eq, uses-app}
+use Rattle.all_index.specs.State.{eqnAt, keyAt, foundIn, Filing, Used, Queued, Indexed}
+use Rattle.all_index.proofs.Filing.{more, more-found, uses-eq, uses-app}
 use Rattle.all_index.proofs.Waiting.{queue-more, queue-put-app}
 use Rattle.all_index.proofs.Views.{row-left, row-right, eqn-at, eqns, tags, keys-same, ress-same, wide, labels, keys, ress, uses, mores, store-frame, store-buckets, link-chains, link-waits, wait-chains, wait-waits}
 use Rattle.all_join.specs.State.{Standing, Joining, Joined}
 use Rattle.all_join.proofs.Standing.{standing-same}
 use Rattle.all_settle.specs.State.{Level, Open}
 use Rattle.all_settle.proofs.Views.{level-same, row-at}
-use Rattle.all_close.specs.State.{front, Between, Admitted}
+use Rattle.all_close.specs.State.{front, Between, Entered, Equated, Admitted}
 use Rattle.all_close.proofs.Moments.{standing-next}
 
 -- The record of place i was put into the lists of one of its arguments, x.
@@ -101,6 +102,15 @@ next-right {i = i} b low = omega (arith, row-right (b .standing .loaded) i low, 
 pub counted-open : {t : Front} {w : List ℕ} {n i first : ℕ} → t .places ≡ suc i → Open (front (t .size) (t .len) (suc i)) w n first → Open t w n first
 counted-open e o = rw (← e) at o
 
+pub counted-entered : {t : Front} {w w′ : List ℕ} {i n : ℕ} → t .places ≡ suc i → Entered (front (t .size) (t .len) (suc i)) w i n w′ → Entered t w i n w′
+counted-entered e h = record { frame = h .frame; state = counted-open e (h .state); key = h .key; found = h .found }
+
+pub counted-equated : {t : Front} {w w′ : List ℕ} {i n n′ first : ℕ} → t .places ≡ suc i → Equated (front (t .size) (t .len) (suc i)) w i n w′ n′ first → Equated t w i n w′ n′ first
+counted-equated e h = record { frame = h .frame; state = counted-open e (h .state); more = h .more; level = h .level }
+
+open-counted : {t : Front} {w : List ℕ} {n i first : ℕ} → t .places ≡ suc i → Open t w n first → Open (front (t .size) (t .len) (suc i)) w n first
+open-counted {t} {w} {n} {i} {first} e o = let z : Open (front (t .size) (t .len) (t .places)) w n first = o in rw e at z
+
 -- The first that waits, as it is handed on.
 pub open-from : {t : Front} {w : List ℕ} {n a b : ℕ} → a ≡ b → Open t w n b → Open t w n a
 open-from e o = rw e o
@@ -111,8 +121,13 @@ module _ {N len i : ℕ} {w : List ℕ} {n : ℕ} (b : Between N len i w n) (low
   most = next-low b low
 
   pub entered : {w₁ w₂ w₃ : List ℕ} → Stored false (leftOf w (suc i)) i (useOf false w (leftOf w (suc i))) w w₁ → Stored true (rightOf w (suc i)) i (useOf true w₁ (rightOf w (suc i))) w₁ w₂ → w₃ ≡ set w₂ (CHAIN .at + i) (0 + WAITS)
-      → Within behindColumns w w₃ × Open (front N len (suc i)) w₃ n (suc i)
-  entered {w₁} {w₂} {w₃} s t e = (frame, record { standing = standing; indexed = record { filing = filing; queue = queue; uses = used }; level = level })
+      → Entered (front N len (suc i)) w i n w₃
+  entered {w₁} {w₂} {w₃} s t e = record {
+    frame = frame;
+    state = record { standing = standing; indexed = record { filing = filing; queue = queue; uses = used }; level = level };
+    key = same-key;
+    found = let z : foundIn w₃ (keyAt w i) ≡ foundIn w (keyAt w i) = rw (same-keys, buckets, chains) (more-found (b .indexed .filing .filed) 0 (keyAt w i)) in ap (foundIn w₃) same-key ∙ z;
+  }
     where
       long : Large w₂
       long = omega (arith, b .standing .loaded .long, s .frame .size, t .frame .size)
@@ -141,11 +156,17 @@ module _ {N len i : ℕ} {w : List ℕ} {n : ℕ} (b : Between N len i w n) (low
       buckets : bucketOf w₃ ≡ bucketOf w
       buckets = store-buckets w₂ w₃ i (0 + WAITS) long most e ∙ t .bucket ∙ s .bucket
 
+      same-keys : keyAt w₃ ≡ keyAt w
+      same-keys = keys-same frame label
+
+      same-key : keyAt w₃ i ≡ keyAt w i
+      same-key = ap (λ (k : ℕ → ℕ). k i) same-keys
+
       standing : Standing (front N len (suc i)) w₃ n
       standing = standing-same narrow label (standing-next b low)
 
       filing : Filing (front N len (suc i)) w₃
-      filing = record { loaded = standing .loaded; reach = low; filed = rw (eqns frame, keys-same frame label, ress-same frame label, buckets, chains) (more (b .indexed .filing .filed) 0 (omega arith) (inl refl)) }
+      filing = record { loaded = standing .loaded; reach = low; filed = rw (eqns frame, same-keys, ress-same frame label, buckets, chains) (more (b .indexed .filing .filed) 0 (omega arith) (inl refl)) }
 
       queue : Queued (front N len (suc i)) w₃ (suc i)
       queue = rw (eqns frame, chains, waits) (queue-put-app 0 app (b .indexed .queue))
@@ -223,30 +244,41 @@ module _ {N len i : ℕ} {w : List ℕ} {n : ℕ} (b : Between N len i w n) (low
   level : Level i w′
   level = level-same (wide equate-chain) (λ x y q. rw (labels equate-chain) q) (b .level)
 
-  pub equate-stay : labelOf w′ (leftOf w′ (suc i)) ≡ labelOf w′ (rightOf w′ (suc i)) → Open (front N len (suc i)) w′ n 0
+  -- The labels are those it had before.
+  labels-were : (labelOf w′ (leftOf w′ (suc i)) ≡ labelOf w (leftOf w (suc i))) × (labelOf w′ (rightOf w′ (suc i)) ≡ labelOf w (rightOf w (suc i)))
+  labels-were = rw (labels equate-chain, lefts (wide equate-chain), rights (wide equate-chain)) (refl, refl)
+
+  pub equate-stay : labelOf w′ (leftOf w′ (suc i)) ≡ labelOf w′ (rightOf w′ (suc i)) → Equated (front N len (suc i)) w i n w′ n 0
   equate-stay q = record {
-    standing = equate-standing;
-    indexed = equate-indexed;
-    level = below (λ j. eqnAt w′ j ≡ true → labelOf w′ (leftOf w′ (suc j)) ≡ labelOf w′ (rightOf w′ (suc j))) i level (λ _. q);
+    frame = wide equate-chain;
+    state = record {
+      standing = equate-standing;
+      indexed = equate-indexed;
+      level = below (λ j. eqnAt w′ j ≡ true → labelOf w′ (leftOf w′ (suc j)) ≡ labelOf w′ (rightOf w′ (suc j))) i level (λ _. q);
+    };
+    more = omega arith;
+    level = (λ _. sym (labels-were .0) ∙ q ∙ labels-were .1, λ _. refl);
   }
 
   -- Its number, and how many are in then, as they were handed on.
   pub equate-joining : (m k x y : ℕ) → m ≡ suc i → k ≡ suc i → x ≡ labelOf w′ (leftOf w′ (suc i)) → y ≡ labelOf w′ (rightOf w′ (suc i)) → x ≢ y → Joining (front N len m) w′ n 0 k 0 x y
   equate-joining m k x y em ek ex ey d = rw (em, ek) (equate-due equate-standing equate-indexed low same-eqn x y ex ey d)
 
-  pub equate-joined : {m x y first : ℕ} {w″ : List ℕ} → m ≡ suc i → x ≡ labelOf w′ (leftOf w′ (suc i)) → y ≡ labelOf w′ (rightOf w′ (suc i)) → Joined (front N len m) w′ n x y w″ first
-      → Within behindColumns w w″ × Open (front N len (suc i)) w″ (n + 1) first × (n ≤ n + 1)
-  equate-joined {m} {x} {y} {first} {w″} em p q J₀ = let J : Joined (front N len (suc i)) w′ n x y w″ first = rw em at J₀ in (
-    within-trans (wide equate-chain) (J .frame),
-    rw add-one (record {
+  pub equate-joined : {m x y first : ℕ} {w″ : List ℕ} → m ≡ suc i → x ≡ labelOf w′ (leftOf w′ (suc i)) → y ≡ labelOf w′ (rightOf w′ (suc i)) → x ≢ y → Joined (front N len m) w′ n x y w″ first
+      → Equated (front N len (suc i)) w i n w″ (n + 1) first
+  equate-joined {m} {x} {y} {first} {w″} em p q d J₀ = let J : Joined (front N len (suc i)) w′ n x y w″ first = rw em at J₀ in record {
+    frame = within-trans (wide equate-chain) (J .frame);
+    state = rw add-one (record {
       standing = J .standing;
       indexed = J .indexed;
       level = below (λ j. eqnAt w″ j ≡ true → labelOf w″ (leftOf w″ (suc j)) ≡ labelOf w″ (rightOf w″ (suc j))) i (level-same (J .frame) (J .same) level)
           (λ _. rw (lefts (J .frame), rights (J .frame)) (J .ends (leftOf w′ (suc i)) (rightOf w′ (suc i)) (sym p) (sym q)));
-    }),
-    omega arith,
-  )
+    });
+    more = omega arith;
+    level = (λ e. absurd (omega arith), λ e. absurd (d (p ∙ labels-were .0 ∙ e ∙ sym (labels-were .1) ∙ sym q)));
+  }
 
 -- A record is in, and none waits any more.
-pub admitted : {N len i n n′ n″ : ℕ} {w w′ w″ : List ℕ} → Within behindColumns w w′ → n ≤ n′ → Within behindColumns w′ w″ → Open (front N len (i + 1)) w″ n″ 0 → n′ ≤ n″ → Admitted N len i w n w″ n″
-admitted f a g o b = record { frame = within-trans f g; between = rw add-one at o; more = omega (arith, a, b) }
+pub admitted : {t : Front} {i n n′ n″ : ℕ} {w w′ w″ : List ℕ} {idle : Bool} → t .places ≡ suc i → Within behindColumns w w′ → n ≤ n′ → Within behindColumns w′ w″ → Open t w″ n″ 0 → n′ ≤ n″
+    → (idle ≡ true) ↔ Idle (recordsIn (t .len) w) i → Admitted (t .size) (t .len) i w n w″ n″ idle
+admitted e f a g o b d = record { frame = within-trans f g; between = open-counted e o; more = omega (arith, a, b); idles = d }

@@ -1,36 +1,39 @@
 -- Between two records the labels are closed under the records so far, so this moment is settled and can be kept; the next record only adds to the numbers.
--- The number of classes is N less the joins, so a record is idle exactly where it made no join.
+-- The labels tell what follows from the records so far, and the chains have one application for every two labels; so one lookup tells whether the next record is idle.
 -- Assumes nothing.
 use Prim.Native.Nat.{ℕ, zero, suc, _+_, _-_, _*_, _≤_, _<_}
 use native.Mathlib.Omega.{arith}
 use native.Mathlib.Numerals.{add-one}
 use native.Mathlib.Decide.{ℕ-discrete, decLt}
 use mathlib.Core.Path.{_≡_, refl, sym, ap, _∙_, fun-ext}
-use mathlib.Core.Logic.{_≢_, _↔_, _⊎_, inl, inr}
+use mathlib.Core.Logic.{_↔_, _⊎_, inl, inr}
 use mathlib.Core.Bool.{Bool, true, false}
 use mathlib.Core.List.{List, [], _∷_, _++_, List·Memᴰ, List·Memᴰ·not-nil, Memᴰ·append-left}
-use lib.Dec.{leb}
+use lib.Dec.{leb, eqb}
 use lib.ListN.{length, take, drop, getD}
-use borrow.Author.Tests.{le-leb}
-use Rattle.meaning.specs.Following.{Rec, eq, app, same, Those, UpTo, Only}
+use borrow.Author.Tests.{le-leb, eq-eqb, eqb-true}
+use Rattle.meaning.specs.Following.{Rec, eq, app, At, Follows, same, Those, UpTo, Only}
 use Rattle.meaning.specs.Joins.{count}
 use Rattle.meaning.specs.Labels.{classes}
 use Rattle.meaning.specs.Forest.{root, History}
-use Rattle.meaning.specs.Totals.{Count, one, skip, Classes, Idle}
+use Rattle.meaning.specs.Totals.{Count, one, skip, Classes, Idle, application}
+use Rattle.meaning.proofs.Decide.{StandIn, idle-eq, idle-app}
 use Rattle.meaning.proofs.Close.{more-of, Closed, closed-by}
 use Rattle.meaning.proofs.Forest.{root-stop, history-start}
 use Rattle.meaning.proofs.Short.{some-class}
-use Rattle.meaning.proofs.Exact.{Settled, settled-classes, idle-iff}
+use Rattle.meaning.proofs.Exact.{Settled, settled-same, settled-classes}
 use Rattle.meaning.specs.Limits.{mostRecords, mostTags, namedNumbers}
 use Rattle.table.specs.Map.{leftOf, rightOf, resultOf, parentOf, ageOf, whenOf, labelOf, useOf, seen, joinAt, recAt, recordsIn, Loaded, Within}
 use Rattle.table.proofs.Frame.{seen-at, seen-past, seen-within, within-trans, within-wider, length-gather, gather-in, in-gather}
 use Rattle.table_labels.specs.Parts.{Fills, CountsUp, Fresh}
-use Rattle.table_labels.proofs.Rows.{at-rec, eq-parts, app-parts}
+use Rattle.table_labels.proofs.Rows.{at-rec, eq-parts, app-parts, split-key}
 use Rattle.table.proofs.Kept.{loaded-same, records-same}
 use Rattle.table_labels.proofs.Views.{fresh-total, lent-within, lent-at, seen-zero}
 use Rattle.all_index.specs.declared.Front.{Front}
-use Rattle.all_index.specs.State.{eqnAt, resAt, foundIn}
-use Rattle.all_index.proofs.Filing.{none, all-known, uses-none}
+use Rattle.all_index.specs.State.{eqnAt, keyAt, resAt, foundIn}
+use Rattle.all_index.proofs.Views.{row-right}
+use Rattle.all_settle.proofs.Views.{row-at}
+use Rattle.all_index.proofs.Filing.{none, found-hit, all-known, uses-none}
 use Rattle.all_index.proofs.Waiting.{queue-none, queue-empty}
 use Rattle.all_join.specs.State.{upTo, Logged, Marked, leadOf, Standing}
 use Rattle.all_join.proofs.Joining.{leaders}
@@ -38,7 +41,7 @@ use Rattle.all_settle.specs.State.{Open}
 use Rattle.table.specs.Past.{ageAfter, leaderAfter}
 use Rattle.table.specs.Places.{AGE, BUCKETS, CHAIN, LABEL, Large, PARENT, SHARES, USES, allOf, behindColumns, bucketCount, forestPart, indexPart, plain}
 use Rattle.all_close.specs.Closing.{Closing}
-use Rattle.all_close.specs.State.{front, Between, Admitted, Begun, Unlinked}
+use Rattle.all_close.specs.State.{front, Between, Again, Admitted, Begun, Unlinked}
 
 -- Where none waits, the labels are closed under the records that are in.
 open-closed : {t : Front} {w : List ℕ} {n : ℕ} → Open t w n 0 → Closed (Only (recordsIn (t .len) w) (upTo (t .places))) (labelOf w)
@@ -207,26 +210,81 @@ between-start {N} {len} {w} {w′} h b = record {
     lead : (x : ℕ) → leadOf w′ 0 x ≡ x
     lead x = root-stop (parentOf w′) (ageOf w′) mostTags 0 (history .links) 0 (omega arith) (omega arith) x (omega arith)
 
+-- By the labels it is told what follows from the records so far.
+module _ {N len i : ℕ} {w : List ℕ} {n : ℕ} (b : Between N len i w n) where
+  pub label-same : (x y : ℕ) → Follows (UpTo (recordsIn len w) i) x y ↔ (labelOf w x ≡ labelOf w y)
+  label-same x y =
+      let h = settled-same (settled b n refl) x y in
+      let m = b .standing .marks in
+      (λ f. m .same x y (h .0 f), λ e. h .1 (m .apart x y e))
+
+  -- Two keys are one where the labels are.
+  keys-of : (j r : ℕ) → labelOf w (leftOf w (suc j)) ≡ labelOf w (leftOf w (suc r)) → labelOf w (rightOf w (suc j)) ≡ labelOf w (rightOf w (suc r)) → keyAt w j ≡ keyAt w r
+  keys-of j r p q = rw (p, q)
+
+  module _ (low : i < len) where
+    -- What comes in.
+    here-eq : eqnAt w i ≡ true → At (recordsIn len w) (suc i) (eq (leftOf w (suc i)) (rightOf w (suc i)))
+    here-eq e = rw e at (row-at (b .standing .loaded) i low)
+
+    here-app : (j : ℕ) → j < len → eqnAt w j ≡ false → At (recordsIn len w) (suc j) (app (leftOf w (suc j)) (rightOf w (suc j)) (resultOf w (suc j)))
+    here-app j l e = rw e at (row-at (b .standing .loaded) j l)
+
+    pub idle-level : eqnAt w i ≡ true → Idle (recordsIn len w) i ↔ (labelOf w (leftOf w (suc i)) ≡ labelOf w (rightOf w (suc i)))
+    idle-level e =
+        let h = idle-eq (here-eq e) in
+        let g = label-same (leftOf w (suc i)) (rightOf w (suc i)) in
+        (λ d. g .0 (h .0 d), λ q. h .1 (g .1 q))
+
+    -- The arguments' labels tell a key apart, also that of the record which comes in.
+    right-low : (j : ℕ) → j < len → labelOf w (rightOf w (suc j)) < 65536
+    right-low j l = omega (arith, b .standing .marks .low (rightOf w (suc j)) (row-right (b .standing .loaded) j l), b .standing .loaded .few)
+
+    again-idle : eqnAt w i ≡ false → Again w i → Idle (recordsIn len w) i
+    again-idle e a =
+        let p = foundIn w (keyAt w i) in
+        let h = found-hit (b .indexed .filing .filed) (keyAt w i) (a .hit) in
+        let l : p - 1 < i = omega (arith, h .1, a .hit) in
+        let k = split-key (labelOf w (leftOf w (suc (p - 1)))) (labelOf w (rightOf w (suc (p - 1)))) (labelOf w (leftOf w (suc i))) (labelOf w (rightOf w (suc i))) (right-low (p - 1) (omega arith)) (right-low i low) (h .0) in
+        application (here-app i low e) (suc (p - 1), l, here-app (p - 1) (omega arith) (h .2))
+        (label-same _ _ .1 (sym (k .0))) (label-same _ _ .1 (sym (k .1))) (label-same _ _ .1 (sym (a .result)))
+
+    idle-again : eqnAt w i ≡ false → Idle (recordsIn len w) i → Again w i
+    idle-again e d = go (idle-app (here-app i low e) .0 d)
+      where
+        go : StandIn (UpTo (recordsIn len w) i) (leftOf w (suc i)) (rightOf w (suc i)) (resultOf w (suc i)) → Again w i
+        go h =
+            let t = h .there in
+            let j = t .2 .place in
+            let l : j < i = omega (arith, t .1, t .2 .number) in
+            let q = app-parts (eqnAt w j) (leftOf w (suc j)) (rightOf w (suc j)) (resultOf w (suc j)) (h .first) (h .second) (h .result) (rw (← t .2 .number) (at-rec len w (t .0) (app (h .first) (h .second) (h .result)) (t .2))) in
+            let x : keyAt w i ≡ keyAt w j = keys-of i j (label-same _ _ .0 (h .firsts) ∙ ap (labelOf w) (sym (q .0 .1))) (label-same _ _ .0 (h .seconds) ∙ ap (labelOf w) (sym (q .1 .0))) in
+            let y : resAt w i ≡ resAt w j = label-same _ _ .0 (h .results) ∙ ap (labelOf w) (sym (q .1 .1)) in
+            let k = all-known (b .indexed .filing .filed) (queue-empty (b .indexed .queue)) j l (q .0 .0) in
+            record { hit = rw x (k .0); result = rw x (k .1) ∙ sym y }
+
+    pub idle-found : eqnAt w i ≡ false → Again w i ↔ Idle (recordsIn len w) i
+    idle-found e = (again-idle e, idle-again e)
+
+-- What a search of the chains told of it: p is what they have for the key, and c and d are the results' labels.
+module _ {N len i : ℕ} {w : List ℕ} {n : ℕ} (b : Between N len i w n) (p : ℕ) (e : p ≡ foundIn w (keyAt w i)) where
+  pub again-hit : 0 < p → (p - 1 < i) × (eqnAt w (p - 1) ≡ false)
+  again-hit l = rw e (let h = found-hit (b .indexed .filing .filed) (keyAt w i) (rw e at l) in (omega (arith, h .1, rw e at l), h .2))
+
+  pub again-same : (c d : ℕ) → 0 < p → c ≡ resAt w (p - 1) → d ≡ resAt w i → (eqb c d ≡ true) ↔ Again w i
+  again-same c d l ec ed = (
+    λ q. record { hit = rw e at l; result = rw (← e) (sym ec ∙ eqb-true c d q ∙ ed) },
+    λ a. eq-eqb c d (ec ∙ rw e (a .result) ∙ sym ed),
+  )
+
 -- The idle records so far.
-module _ {N len i : ℕ} {w w′ : List ℕ} {n n′ idle : ℕ} (b : Between N len i w n) (a : Admitted N len i w n w′ n′) (c : Count (Idle N (recordsIn len w)) i idle) where
-  iff : Idle N (recordsIn len w′) i ↔ (N - n ≡ N - n′)
-  iff = idle-iff (rw (records-same (a .frame) len) (classes-now b)) (classes-now (a .between))
-
-  kept-count : Count (Idle N (recordsIn len w′)) i idle
-  kept-count = rw (records-same (a .frame) len) c
-
-  idle-more : n′ ≡ n → Count (Idle N (recordsIn len w′)) (suc i) (suc idle)
-  idle-more e = one (iff .1 (omega arith)) kept-count
-
-  idle-same : n′ ≢ n → Count (Idle N (recordsIn len w′)) (suc i) idle
-  idle-same d = skip (λ h. d (let q = iff .0 h in omega (arith, low-now b, low-now (a .between)))) kept-count
-
-  pub idle-turn : (idle′ : ℕ) → ((n′ ≡ n) × (idle′ ≡ idle + 1)) ⊎ ((n′ ≢ n) × (idle′ ≡ idle)) → Count (Idle N (recordsIn len w′)) (i + 1) idle′
-  idle-turn idle′ (inl h) = rw (h .1, add-one, add-one) (idle-more (h .0))
-  idle-turn idle′ (inr h) = rw (h .1, add-one) (idle-same (h .0))
+module _ {N len i : ℕ} {w w′ : List ℕ} {n n′ idle : ℕ} {r : Bool} (a : Admitted N len i w n w′ n′ r) (c : Count (Idle (recordsIn len w)) i idle) where
+  pub idle-turn : (idle′ : ℕ) → ((r ≡ true) × (idle′ ≡ idle + 1)) ⊎ ((r ≡ false) × (idle′ ≡ idle)) → Count (Idle (recordsIn len w′)) (i + 1) idle′
+  idle-turn idle′ (inl h) = rw (h .1, add-one, add-one, records-same (a .frame) len) (one (a .idles .0 (h .0)) c)
+  idle-turn idle′ (inr h) = rw (h .1, add-one, records-same (a .frame) len) (skip (λ d. let z : true ≡ false = sym (a .idles .1 d) ∙ h .0 in let y : _≡_ {A = ℕ} 0 1 = cc z in absurd (omega (arith, y))) c)
 
 -- All are in.
-pub close-done : {N len : ℕ} {w w′ : List ℕ} {n idle : ℕ} → Within behindColumns w w′ → Between N len len w′ n → Count (Idle N (recordsIn len w′)) len idle → Closing N len w w′ n idle
+pub close-done : {N len : ℕ} {w w′ : List ℕ} {n idle : ℕ} → Within behindColumns w w′ → Between N len len w′ n → Count (Idle (recordsIn len w′)) len idle → Closing N len w w′ n idle
 close-done {N} {len} {w} {w′} f b c = let g = b .standing .log in record {
   kept = f;
   past = record {

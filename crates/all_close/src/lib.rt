@@ -1,4 +1,4 @@
-// All records of a job are closed, one after the other, and every join is kept. Document 01, "Tags, records, following", "Reasons" and "Idle records"; the closure of source document 002, with its
+// All records of a job are closed, one after the other, and every join is kept. Document 01, "Tags, records, following" and "Reasons", and document 02, No. 6, on idle records; the closure of source document 002, with its
 // lists of uses. Rests on meaning (what follows, the log of joins, the forest of links), table (where things stand), table_labels (labels, keys), all_index (filed applications, and those that wait), all_join (joins)
 // and all_settle (what waits is met).
 //
@@ -6,29 +6,35 @@
 // are met, one after the other, until none does; then all records so far hold, and the next comes in.
 ghost use mathlib.Core.Path.{_≡_};
 ghost use mathlib.Core.Bool.{true, false};
-ghost use Prim.Native.Nat.{suc, _≤_, _<_};
+ghost use Prim.Native.Nat.{_≤_, _<_};
 ghost use lib.ListN.{length};
-ghost use Rattle.table.specs.Map.{Loaded, Within};
-ghost use Rattle.table.specs.Places.{Large, behindColumns};
+ghost use mathlib.Core.Logic.{_↔_};
+ghost use Rattle.table.specs.Map.{Loaded};
+ghost use Rattle.table.specs.Places.{Large};
 ghost use Rattle.all_index.specs.State.{eqnAt};
-ghost use Rattle.all_settle.specs.State.{Open};
 ghost use Rattle.all_close.specs.Closing.{Closing};
-ghost use Rattle.all_close.specs.State.{Between, Coming, Admitted, Unlinked, Begun};
+ghost use Rattle.all_close.specs.State.{Between, Coming, Looked, Again, Entered, Equated, Admitted, Unlinked, Begun};
 use all_index::Front;
 use all_settle::Progress;
 use meaning::RecordNo;
 use meaning::Tag;
 
-// What a run of the closure made: its joins, and the records that made none.
+// What a run of the closure found: the joins it made, and how many records are idle.
 pub struct Totals {
     pub joins: usize,
     pub idle: usize,
 }
 
+// A record that came in: the joins there are after it, and whether it is idle.
+struct Came {
+    joins: usize,
+    idle: bool,
+}
+
 // The application at place i comes in: it waits, and its arguments' lists know it.
 fn enter(work: &mut [u16], front: Front, i: usize, joins: usize)
     requires { ⌜ Coming front (now work) i joins × (eqnAt (now work) i ≡ false) ⌝ }
-    ensures { λ _. ⌜ Within behindColumns (now (work .entry)) (now (work .exit)) × Open front (now (work .exit)) joins (suc i) ⌝ }
+    ensures { λ _. ⌜ Entered front (now (work .entry)) i joins (now (work .exit)) ⌝ }
 {
     let r = all_index::number(i);
     let a = table::left(work, r);
@@ -43,7 +49,7 @@ fn enter(work: &mut [u16], front: Front, i: usize, joins: usize)
 // The equation at place i comes in: its two tags are joined unless they have one label. Both labels are read as one number.
 fn equate(work: &mut [u16], front: Front, i: usize, joins: usize) -> Progress
     requires { ⌜ Coming front (now work) i joins × (eqnAt (now work) i ≡ true) ⌝ }
-    ensures { λ r. ⌜ Within behindColumns (now (work .entry)) (now (work .exit)) × Open front (now (work .exit)) (r .joins) (r .first) × (joins ≤ r .joins) ⌝ }
+    ensures { λ r. ⌜ Equated front (now (work .entry)) i joins (now (work .exit)) (r .joins) (r .first) ⌝ }
 {
     let r = all_index::number(i);
     table::put_chain(work, i, 0);
@@ -63,10 +69,59 @@ fn equate(work: &mut [u16], front: Front, i: usize, joins: usize) -> Progress
     }
 }
 
-// Record number i + 1 comes in, where all records before it hold. The number of joins after it.
-fn admit(work: &mut [u16], size: usize, len: usize, i: usize, joins: usize) -> usize
+// Whether the application at place i, which is to come in, is idle: p is what the chains have for its arguments' labels, and has its result's label.
+fn again(work: &[u16], front: Front, p: usize, i: usize) -> bool
+    requires { ⌜ Looked front (now work) i p ⌝ }
+    ensures { λ r. ⌜ (r ≡ true) ↔ Again (now (work .entry)) i ⌝ }
+{
+    if p == 0 {
+        return false;
+    }
+    let c = all_settle::outcome(work, all_index::number(p - 1));
+    let d = all_settle::outcome(work, all_index::number(i));
+    c.0 == d.0
+}
+
+// The application at place i comes in, and what waits then is met. It is looked up once, before it is in: that tells whether it is idle, and where it goes.
+fn admit_application(work: &mut [u16], front: Front, i: usize, joins: usize) -> Came
+    requires { ⌜ Coming front (now work) i joins × (eqnAt (now work) i ≡ false) ⌝ }
+    ensures { λ r. ⌜ Admitted (front .size) (front .len) i (now (work .entry)) joins (now (work .exit)) (r .joins) (r .idle) ⌝ }
+{
+    let x = table_labels::key(work, all_index::number(i));
+    let before = Front {
+        size: front.size,
+        len: front.len,
+        places: i,
+    };
+    let p = all_settle::look_up(work, before, x);
+    let idle = again(work, front, p, i);
+    enter(work, front, i, joins);
+    let q = all_settle::resolve(work, front, x, p, i, joins);
+    let after = all_settle::settle(work, front, q.joins, q.first);
+    Came {
+        joins: after,
+        idle: idle,
+    }
+}
+
+// The equation at place i comes in, and what waits then is met. It is idle if it made no join itself.
+fn admit_equation(work: &mut [u16], front: Front, i: usize, joins: usize) -> Came
+    requires { ⌜ Coming front (now work) i joins × (eqnAt (now work) i ≡ true) ⌝ }
+    ensures { λ r. ⌜ Admitted (front .size) (front .len) i (now (work .entry)) joins (now (work .exit)) (r .joins) (r .idle) ⌝ }
+{
+    let q = equate(work, front, i, joins);
+    let idle = q.joins == joins;
+    let after = all_settle::settle(work, front, q.joins, q.first);
+    Came {
+        joins: after,
+        idle: idle,
+    }
+}
+
+// Record number i + 1 comes in, where all records before it hold.
+fn admit(work: &mut [u16], size: usize, len: usize, i: usize, joins: usize) -> Came
     requires { ⌜ Between size len i (now work) joins × (i < len) ⌝ }
-    ensures { λ r. ⌜ Admitted size len i (now (work .entry)) joins (now (work .exit)) r ⌝ }
+    ensures { λ r. ⌜ Admitted size len i (now (work .entry)) joins (now (work .exit)) (r .joins) (r .idle) ⌝ }
 {
     let front = Front {
         size: size,
@@ -74,11 +129,9 @@ fn admit(work: &mut [u16], size: usize, len: usize, i: usize, joins: usize) -> u
         places: i + 1,
     };
     if table::is_equation(work, all_index::number(i)) {
-        let p = equate(work, front, i, joins);
-        return all_settle::settle(work, front, p.joins, p.first);
+        return admit_equation(work, front, i, joins);
     }
-    enter(work, front, i, joins);
-    all_settle::settle(work, front, joins, i + 1)
+    admit_application(work, front, i, joins)
 }
 
 // No tag is linked.
@@ -110,11 +163,11 @@ pub fn close(work: &mut [u16], size: usize, len: usize) -> Totals
     let mut idle = 0;
     let mut i = 0;
     while i < len {
-        let after = admit(work, size, len, i, joins);
-        if after == joins {
+        let r = admit(work, size, len, i, joins);
+        if r.idle {
             idle += 1;
         }
-        joins = after;
+        joins = r.joins;
         i += 1;
     }
     Totals {

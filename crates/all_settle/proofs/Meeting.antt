@@ -28,9 +28,9 @@ use Rattle.all_settle.specs.State.{Open, Unifying, Gone}
 use Rattle.all_settle.proofs.Views.{level-same}
 
 -- The search found what the chains have for the key.
-pub meet-found : (w : List ℕ) (j x b from p : ℕ) → x ≡ keyAt w j → b ≡ x % bucketCount → from ≡ bucketOf w b → p ≡ seekTo (link (chainOf w)) (hits (keyAt w) x) from → p ≡ foundIn w (keyAt w j)
+pub look-found : (w : List ℕ) (x from p : ℕ) → from ≡ bucketOf w (x % bucketCount) → p ≡ seekTo (link (chainOf w)) (hits (keyAt w) x) from → p ≡ foundIn w x
 unfolding look
-meet-found w j x b from p ex eb ef ep = ep ∙ rw (ef, eb, ex)
+look-found w x from p ef ep = ep ∙ rw ef
 
 -- It waits no more, and no join came.
 pub met-quiet : {t : Front} {w w′ : List ℕ} {n first next : ℕ} → Open t w n first → Within filePart w w′ → Filing t w′ → Queued t w′ next → waiting (t .places) (chainOf w′) < waiting (t .places) (chainOf w) → Gone t w n w′ n next

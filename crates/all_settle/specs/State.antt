@@ -21,6 +21,12 @@ pub record Open (t : Front) (w : List ℕ) (n first : ℕ) : Type 0 where
   pub indexed : Indexed t w first
   pub level : Level (t .places) w
 
+-- The application at place j, the first that waits, has the key x, and the link p is what the chains have for it.
+pub record Sought (t : Front) (w : List ℕ) (x p j n : ℕ) : Type 0 where
+  pub state : Open t w n (suc j)
+  pub key : x ≡ keyAt w j
+  pub found : p ≡ foundIn w (keyAt w j)
+
 -- The application at place j, the first that waits, is to be met with the one that the chains have for its key.
 pub record Unifying (t : Front) (w : List ℕ) (p j n : ℕ) : Type 0 where
   pub state : Open t w n (suc j)

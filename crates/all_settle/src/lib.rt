@@ -8,7 +8,8 @@ ghost use lib.ListN.{length};
 ghost use Rattle.meaning.specs.Limits.{mostRecords, mostTags};
 ghost use Rattle.table.specs.Map.{resultOf, labelOf, Within};
 ghost use Rattle.table.specs.Places.{Large, behindColumns};
-ghost use Rattle.all_settle.specs.State.{Open, Unifying, Gone};
+ghost use Rattle.all_index.specs.State.{foundIn, Filing};
+ghost use Rattle.all_settle.specs.State.{Open, Sought, Unifying, Gone};
 use all_index::Front;
 use meaning::RecordNo;
 use meaning::Tag;
@@ -20,7 +21,7 @@ pub struct Progress {
 }
 
 // The label of an application's result.
-fn outcome(work: &[u16], r: RecordNo) -> Tag
+pub fn outcome(work: &[u16], r: RecordNo) -> Tag
     requires { ⌜ Large (now work) × (r .0 ≤ mostRecords) × (resultOf (now work) (r .0) < mostTags) ⌝ }
     ensures { λ l. ⌜ l .0 ≡ labelOf (now (work .entry)) (resultOf (now (work .entry)) (r .0)) ⌝ }
 {
@@ -52,16 +53,29 @@ fn unify(work: &mut [u16], front: Front, p: usize, j: usize, joins: usize) -> Pr
     }
 }
 
-// The application at place j, the first that waits, is met: it is looked up by its arguments' labels.
-fn meet(work: &mut [u16], front: Front, j: usize, joins: usize) -> Progress
-    requires { ⌜ Open front (now work) joins (suc j) ⌝ }
+// The link to the application that the chains have for the key x, or 0.
+pub fn look_up(work: &[u16], front: Front, x: usize) -> usize
+    requires { ⌜ Filing front (now work) ⌝ }
+    ensures { λ p. ⌜ p ≡ foundIn (now (work .entry)) x ⌝ }
+{
+    let from = table::bucket(work, x % all_index::BUCKETS);
+    all_index::seek(work, front, from, x)
+}
+
+// The application at place j, the first that waits, has the key x, and p is what was found for it: where that is nothing it is filed, otherwise the two are met.
+pub fn resolve(
+    work: &mut [u16],
+    front: Front,
+    x: usize,
+    p: usize,
+    j: usize,
+    joins: usize,
+) -> Progress
+    requires { ⌜ Sought front (now work) x p j joins ⌝ }
     ensures { λ r. ⌜ Gone front (now (work .entry)) joins (now (work .exit)) (r .joins) (r .first) ⌝ }
 {
-    let x = table_labels::key(work, all_index::number(j));
-    let b = x % all_index::BUCKETS;
-    let from = table::bucket(work, b);
-    let p = all_index::seek(work, front, from, x);
     if p == 0 {
+        let b = x % all_index::BUCKETS;
         let q = all_index::above(work, front, b, j);
         let next = all_index::file(work, front, b, q, j);
         return Progress {
@@ -70,6 +84,16 @@ fn meet(work: &mut [u16], front: Front, j: usize, joins: usize) -> Progress
         };
     }
     unify(work, front, p, j, joins)
+}
+
+// The application at place j, the first that waits, is met: it is looked up by its arguments' labels.
+fn meet(work: &mut [u16], front: Front, j: usize, joins: usize) -> Progress
+    requires { ⌜ Open front (now work) joins (suc j) ⌝ }
+    ensures { λ r. ⌜ Gone front (now (work .entry)) joins (now (work .exit)) (r .joins) (r .first) ⌝ }
+{
+    let x = table_labels::key(work, all_index::number(j));
+    let p = look_up(work, front, x);
+    resolve(work, front, x, p, j, joins)
 }
 
 // What waits is met, the first of them each time, until none does. The number of joins then.

@@ -40,7 +40,7 @@ module _ {job room w : List ℕ} {N len : ℕ} (r : Ready job room w N len) {w�
         let size : length f ≡ 7 = length-field 143 body ∙ rw (length-numbers ((N - joins) ∷ idle ∷ [])) (omega arith) in
         record {
           bytes = t .bytes ++ f;
-          sound = t .sound f (totals (total (rw (r .size, ← r .few, ← records-after) (c .classes)) (rw (r .size, ← records-after) (c .idles))));
+          sound = t .sound f (totals (total (rw (r .size, ← r .few, ← records-after) (c .classes)) (rw (← records-after) (c .idles))));
           size = rw (length-append, size, t .reached);
           front = e ∙ laid-then 0 end (t .bytes) f room room₁ (omega (arith, t .reached, t .fits)) (omega (arith, t .reached)) (t .front) ∙ laid-front (t .bytes ++ f) room;
           kept = within-trans (within-wider behindColumns (omega arith) (omega arith) (c .kept)) (within-wider behindColumns (omega arith) (omega arith) (t .kept));

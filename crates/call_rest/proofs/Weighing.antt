@@ -71,7 +71,7 @@ module _ (job report w : List ℕ) (s : Sight) (h : Begun job w s) where
         held = held;
         past = d .past;
         classes = subst (λ (rs : List Rec). Classes (s .size) (UpTo rs (s .records)) (s .size - joins)) held (d .classes);
-        idles = subst (λ (rs : List Rec). Idles (s .size) rs idle) held (d .idles);
+        idles = subst (λ (rs : List Rec). Idles rs idle) held (d .idles);
       }
 
       pub weigh-done : (w″ w‴ : List ℕ) (j : Judgement) → Judged job report w′ w″ j → Returned true w″ w‴ → Weighed job report w s (findingOf j .number) (findingOf j .place) w‴

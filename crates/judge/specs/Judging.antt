@@ -26,7 +26,7 @@ pub record Judgeable (job w : List ℕ) (N len joins idle : ℕ) : Type 0 where
   pub held : recordsIn len w ≡ recordsOf (itemsIn job)
   pub past : Past N len w joins
   pub classes : Classes N (UpTo (recordsOf (itemsIn job)) len) (N - joins)
-  pub idles : Idles N (recordsOf (itemsIn job)) idle
+  pub idles : Idles (recordsOf (itemsIn job)) idle
 
 -- What is answered of the bytes of a report that are left, from a place of it on, for the items that are left: they are sound, or the
 -- first place at fault.

@@ -3,17 +3,17 @@
 use Prim.Native.Nat.{ℕ, zero, suc, _≤_, _<_, _*_, _-_, max}
 use native.Mathlib.Omega.{arith}
 use native.Mathlib.Decide.{ℕ-discrete, decLt, decLe}
-use mathlib.Core.Path.{_≡_, refl}
+use mathlib.Core.Path.{_≡_, refl, sym, _∙_}
 use mathlib.Core.Logic.{_≢_, _↔_, inl, inr, Dec·not, Dec·and, Iff·symm}
 use mathlib.Core.Bool.{Bool, true, false, _&&_, not}
 use mathlib.Core.List.{List, [], cons≢nil, _∷_, List·Memᴰ, List·Memᴰ·head, List·Memᴰ·tail, List·Memᴰ·cases-cons, List·Memᴰ·not-nil}
 use lib.Dec.{T, leb, leb→le, le→leb, eqb, eqb→eq, T-not, not-T}
 use borrow.Author.Tests.{eq-eqb}
 use lib.ListN.{length, getD}
-use Rattle.meaning.specs.Following.{Rec, eq, app, Follows, Those, UpTo, Without, Leader}
+use Rattle.meaning.specs.Following.{Rec, eq, app, At, Follows, Those, UpTo, Without, Leader}
 use Rattle.meaning.specs.Reasons.{Above, lastOf, FirstAt, Reason}
 use Rattle.meaning.specs.Labels.{Labels}
-use Rattle.meaning.specs.Totals.{Count, none, one, skip, Classes, Idle}
+use Rattle.meaning.specs.Totals.{Count, none, one, skip, Classes, Idle, equation, application}
 use Rattle.meaning.specs.Cases.{Claim, follow, apart, leader, reason, unsound, classes, idle, Says}
 use Rattle.meaning.proofs.Close.{more-of}
 use Rattle.meaning.proofs.Count.{count-one}
@@ -194,12 +194,92 @@ unfoldable pub decClasses : (N : ℕ) (rs : List Rec) (k n : ℕ) → Dec (Class
 unfolding decCount decLeader
 decClasses N rs k n = decCount (λ x. Leader (UpTo rs k) x x) (λ x. decLeader rs (λ n. leb n k) (λ n. n ≤ k) (upTo-test k) x x) N n
 
-unfoldable pub decIdle : (N : ℕ) (rs : List Rec) (k : ℕ) → Dec (Idle N rs k)
-unfolding countIt decLeader decIff decClasses
-decIdle N rs k = go (countIt (λ x. Leader (UpTo rs k) x x) (λ x. decLeader rs (λ n. leb n k) (λ n. n ≤ k) (upTo-test k) x x) N)
+-- A number stands for one record.
+pub at-one : {rs : List Rec} {k k′ : ℕ} {r r′ : Rec} → k ≡ k′ → At rs k r → At rs k′ r′ → r ≡ r′
+at-one e i j = let q : i .place ≡ j .place = omega (arith, i .number, j .number) in sym (i .is) ∙ rw q (j .is)
+
+-- An equation is no application.
+pub eq-app : {a b x y z : ℕ} → eq a b ≡ app x y z → ⊥
+eq-app e = let z : _≡_ {A = ℕ} 0 1 = cc e in omega (arith, z)
+
+-- Being idle, by the record that has the number: an equation, ..
+pub idle-eq : {rs : List Rec} {k a b : ℕ} → At rs (suc k) (eq a b) → Idle rs k ↔ Follows (UpTo rs k) a b
+idle-eq {rs} {k} {a} {b} i = (go, equation i)
   where
-    go : (n : ℕ) × Classes N (UpTo rs k) n → Dec (Idle N rs k)
-    go c = decIff (λ d. (c .0, c .1, d), λ i. rw (count-one (c .1) (i .1)) (i .2)) (decClasses N rs (suc k) (c .0))
+    go : Idle rs k → Follows (UpTo rs k) a b
+    go (equation {a = x} {b = y} j f) = let z = at-one refl i j in let p : a ≡ x = cc z in let q : b ≡ y = cc z in rw (p, q) f
+    go (application j u f g h) = absurd (eq-app (at-one refl i j))
+
+-- .. or an application: one of the records before it stands in for it, with all three tags equal by them.
+pub record StandIn (S : Rec → Type 0) (a b c : ℕ) : Type 0 where
+  pub first : ℕ
+  pub second : ℕ
+  pub result : ℕ
+  pub there : S (app first second result)
+  pub firsts : Follows S a first
+  pub seconds : Follows S b second
+  pub results : Follows S c result
+
+pub idle-app : {rs : List Rec} {k a b c : ℕ} → At rs (suc k) (app a b c) → Idle rs k ↔ StandIn (UpTo rs k) a b c
+idle-app {rs} {k} {a} {b} {c} i = (go, λ h. application i (h .there) (h .firsts) (h .seconds) (h .results))
+  where
+    go : Idle rs k → StandIn (UpTo rs k) a b c
+    go (equation j f) = absurd (eq-app (at-one refl j i))
+    go (application {a = x} {b = y} {c = z} {a′ = x′} {b′ = y′} {c′ = z′} j u f g h) =
+        let e = at-one refl i j in
+        let p : a ≡ x = cc e in
+        let q : b ≡ y = cc e in
+        let r : c ≡ z = cc e in
+        record { first = x′; second = y′; result = z′; there = u; firsts = rw p f; seconds = rw q g; results = rw r h }
+
+-- It is decided.
+abbrev pub Twin : List Rec → ℕ → ℕ → ℕ → ℕ → Rec → Type 0
+Twin rs k a b c (eq a′ b′) = ⊥
+Twin rs k a b c (app a′ b′ c′) = Follows (UpTo rs k) a a′ × (Follows (UpTo rs k) b b′ × Follows (UpTo rs k) c c′)
+
+unfoldable pub decTwin : (rs : List Rec) (k a b c : ℕ) (r : Rec) → Dec (Twin rs k a b c r)
+unfolding Dec·and decUpTo
+decTwin rs k a b c (eq a′ b′) = no (λ x. x)
+decTwin rs k a b c (app a′ b′ c′) = Dec·and (decUpTo rs k a a′) (Dec·and (decUpTo rs k b b′) (decUpTo rs k c c′))
+
+unfoldable pub decIdle : (rs : List Rec) (k : ℕ) → Dec (Idle rs k)
+unfolding decTwin any-below decIff decUpTo decLt
+decIdle rs k = inside (decLt k (length rs))
+  where
+    here : (r : Rec) → getD rs k (eq 0 0) ≡ r → k < length rs → At rs (suc k) r
+    here r e l = record { place = k; number = refl; stands = l; is = e }
+
+    found : (a b c : ℕ) → k < length rs → (i : ℕ) × (i < k) × Twin rs k a b c (getD rs i (eq 0 0)) → StandIn (UpTo rs k) a b c
+    found a b c l h = go (getD rs (h .0) (eq 0 0)) refl (h .2)
+      where
+        go : (r : Rec) → getD rs (h .0) (eq 0 0) ≡ r → Twin rs k a b c r → StandIn (UpTo rs k) a b c
+        go (eq x y) e t = absurd t
+        go (app x y z) e t = record {
+          first = x;
+          second = y;
+          result = z;
+          there = (suc (h .0), omega (arith, h .1), record { place = h .0; number = refl; stands = omega (arith, h .1); is = e });
+          firsts = t .0;
+          seconds = t .1 .0;
+          results = t .1 .1;
+        }
+
+    finds : (a b c : ℕ) → StandIn (UpTo rs k) a b c → (i : ℕ) × (i < k) × Twin rs k a b c (getD rs i (eq 0 0))
+    finds a b c h = let i = h .there .2 in (i .place, omega (arith, i .number, h .there .1), rw (i .is) (h .firsts, (h .seconds, h .results)))
+
+    by-kind : (r : Rec) → getD rs k (eq 0 0) ≡ r → k < length rs → Dec (Idle rs k)
+    by-kind (eq a b) e l = let h = idle-eq (here (eq a b) e l) in decIff (h .1, h .0) (decUpTo rs k a b)
+    by-kind (app a b c) e l =
+        let h = idle-app (here (app a b c) e l) in
+        decIff (λ t. h .1 (found a b c l t), λ i. finds a b c (h .0 i)) (any-below (λ i. Twin rs k a b c (getD rs i (eq 0 0))) (λ i. decTwin rs k a b c (getD rs i (eq 0 0))) k)
+
+    past : {A : Type 0} → (k < length rs → ⊥) → Idle rs k → A
+    past l (equation i f) = absurd (l (omega (arith, i .stands, i .number)))
+    past l (application i u f g h) = absurd (l (omega (arith, i .stands, i .number)))
+
+    inside : Dec (k < length rs) → Dec (Idle rs k)
+    inside (yes l) = by-kind (getD rs k (eq 0 0)) refl l
+    inside (no l) = no (past l)
 
 unfoldable pub decSays : (N : ℕ) (rs : List Rec) (R : ℕ) (c : Claim) → Dec (Says N rs R c)
 unfolding decUpTo Dec·not decLeader decReason decClasses decCount decIdle
@@ -209,4 +289,4 @@ decSays N rs R (leader s l) = decLeader rs (λ n. leb n R) (λ n. n ≤ R) (upTo
 decSays N rs R (reason s t L) = decReason N rs R s t L
 decSays N rs R (unsound s t L) = Dec·not (decReason N rs R s t L)
 decSays N rs R (classes n) = decClasses N rs R n
-decSays N rs R (idle n) = decCount (Idle N rs) (decIdle N rs) (length rs) n
+decSays N rs R (idle n) = decCount (Idle rs) (decIdle rs) (length rs) n

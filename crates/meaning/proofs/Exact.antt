@@ -1,23 +1,20 @@
 -- A closure that has nothing left to do is sound by its log and complete by its labels, so its labels decide following, leaders and the number of classes. Below it
--- stand what follows for a reason, for a front of the records, for the first k and for idle records. Assumes nothing.
+-- stand what follows for a reason, for a front of the records and for the first k. Assumes nothing.
 use Prim.Native.Nat.{ℕ, suc, _≤_, _<_}
 use native.Mathlib.Omega.{arith}
 use mathlib.Core.Path.{_≡_, refl, sym, _∙_}
 use mathlib.Core.Logic.{_≢_, _↔_}
 use mathlib.Core.List.{List, [], _++_, List·Memᴰ, List·Memᴰ·not-nil}
-use lib.Dec.{T, eqb, eqb→eq}
-use borrow.Author.Tests.{eq-eqb}
 use lib.ListN.{length, getD, length-append, List·getD-append}
 use Rattle.meaning.specs.Following.{Rec, eq, At, Follows, same, Those, Only, UpTo, Without, Leader}
 use Rattle.meaning.specs.Reasons.{Above, lastOf, FirstAt, Reason}
-use Rattle.meaning.specs.Joins.{Join, Justified, used, all, count}
+use Rattle.meaning.specs.Joins.{Join, Justified, used, all}
 use Rattle.meaning.specs.Labels.{Labels, classes, Agree}
 use Rattle.meaning.specs.Trim.{Trimmed}
-use Rattle.meaning.specs.Totals.{Classes, Idle, Idles}
+use Rattle.meaning.specs.Totals.{Classes}
 use Rattle.meaning.proofs.Close.{more, more-of, Closed, complete}
 use Rattle.meaning.proofs.Leaders.{leader-of, classes-of}
 use Rattle.meaning.proofs.Log.{linked-follows}
-use Rattle.meaning.proofs.Count.{count-of, count-one}
 use Rattle.meaning.proofs.Trim.{last-is-first}
 use Rattle.meaning.proofs.Reference.{Small}
 use Rattle.meaning.proofs.Short.{reason-others}
@@ -107,14 +104,3 @@ first-one {k = k} {k′ = k′} f f′ =
 -- .. and a rising list within 1..k+1 that entails, where 1..k do not, ends with it.
 pub last-at : (rs : List Rec) (s t k : ℕ) (L : List ℕ) → (Follows (UpTo rs k) s t → ⊥) → Above 0 L → ((n : ℕ) → List·Memᴰ n L → n ≤ suc k) → Follows (Only rs L) s t → lastOf 0 L ≡ suc k
 last-at rs s t k L h a u e = last-is-first rs s t (suc k) L (first-at (more-of u e) h) a u e
-
--- A record is idle where the two numbers of classes are one, ..
-pub idle-iff : {N : ℕ} {rs : List Rec} {k n n′ : ℕ} → Classes N (UpTo rs k) n → Classes N (UpTo rs (suc k)) n′ → Idle N rs k ↔ (n ≡ n′)
-idle-iff {n = n} c c′ = (λ i. count-one c (i .1) ∙ count-one (i .2) c′, λ q. (n, c, rw q c′))
-
--- .. so the idle records are counted by comparing those numbers, one record after the other.
-pub idles-of : (N : ℕ) (rs : List Rec) (cl : ℕ → ℕ) → ((k : ℕ) → k ≤ length rs → Classes N (UpTo rs k) (cl k)) → Idles N rs (count (λ k. eqb (cl k) (cl (suc k))) (length rs))
-idles-of N rs cl c = count-of (Idle N rs) (λ k. eqb (cl k) (cl (suc k))) (length rs) (λ k l. go k (idle-iff (c k (omega arith)) (c (suc k) l)))
-  where
-    go : (k : ℕ) → Idle N rs k ↔ (cl k ≡ cl (suc k)) → Idle N rs k ↔ T (eqb (cl k) (cl (suc k)))
-    go k e = (λ i. rw (eq-eqb (cl k) (cl (suc k)) (e .0 i)) tt, λ t. e .1 (eqb→eq (cl k) (cl (suc k)) t))

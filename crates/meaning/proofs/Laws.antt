@@ -27,14 +27,14 @@ use Rattle.meaning.proofs.Exact.{first-at, reason-of, reason-same}
 pub classes-one : {N : ℕ} {S : Rec → Type 0} {n m : ℕ} → Classes N S n → Classes N S m → n ≡ m
 classes-one = count-one
 
-pub idles-one : {N : ℕ} {rs : List Rec} {n m : ℕ} → Idles N rs n → Idles N rs m → n ≡ m
+pub idles-one : {rs : List Rec} {n m : ℕ} → Idles rs n → Idles rs m → n ≡ m
 idles-one = count-one
 
 -- The totals fit: no more classes than tags, no more idle records than records.
 pub classes-most : {N : ℕ} {S : Rec → Type 0} {n : ℕ} → Classes N S n → n ≤ N
 classes-most = count-most
 
-pub idles-most : {N : ℕ} {rs : List Rec} {n : ℕ} → Idles N rs n → n ≤ length rs
+pub idles-most : {rs : List Rec} {n : ℕ} → Idles rs n → n ≤ length rs
 idles-most = count-most
 
 -- Following is decided, from any records that are picked by a decided set of numbers; so is being a reason.

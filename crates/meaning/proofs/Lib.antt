@@ -15,4 +15,5 @@ pub mod Forest
 pub mod Walk
 pub mod Table
 pub mod Tests
+pub mod Sifting
 pub mod Needed

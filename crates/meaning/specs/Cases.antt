@@ -1,5 +1,5 @@
 -- DEFINITIONS, to be read against document 01, "Small cases on both sides" and "The program": the ten starred cases and the inspector's job as one table, what each
--- kind of claim says in the definitions, and the one claim over the table. Beside it a table of twins, each wrong where its case is right. Assumes nothing.
+-- kind of claim says in the definitions, and the one claim over the table. What is idle is as document 02, No. 6, has it. Beside it a table of twins, each wrong where its case is right. Assumes nothing.
 use Prim.Native.Nat.{ℕ}
 use mathlib.Core.List.{List, [], _∷_}
 use Rattle.meaning.specs.Following.{Rec, eq, app, Follows, UpTo, Leader}
@@ -28,7 +28,7 @@ Says N rs R (unsound s t L) = Reason N rs R s t L → ⊥
 -- there are n classes
 Says N rs R (classes n) = Classes N (UpTo rs R) n
 -- n records of the whole job are idle
-Says N rs R (idle n) = Idles N rs n
+Says N rs R (idle n) = Idles rs n
 
 -- A case: the number of tags, the job's records in their order, how many of them stand before the question, and what is claimed.
 pub record Case : Type 0 where
@@ -82,14 +82,14 @@ stars =
     ∷ record { tags = 4; records = app 0 1 0 ∷ app 2 1 3 ∷ eq 0 2 ∷ []; before = 3; claims = follow 2 3 ∷ reason 2 3 (1 ∷ 2 ∷ 3 ∷ []) ∷ [] }
     -- The inspector's job at its first question: N 2 3.
     ∷ record { tags = 8; records = inspector; before = 3; claims = apart 2 3 ∷ [] }
-    -- The inspector's job at its other questions and its end: S 0 3 0 (both leaders are 0); E 0 3 5 1 2 3 4 5; D 0 4 0 4; E 2 1 3 1 2 4; E 4 4 0; T 4 2.
+    -- The inspector's job at its other questions and its end: S 0 3 0 (both leaders are 0); E 0 3 5 1 2 3 4 5; D 0 4 0 4; E 2 1 3 1 2 4; E 4 4 0; T 4 0.
     ∷ record {
       tags = 8;
       records = inspector;
       before = 5;
       claims =
           follow 0 3 ∷ leader 0 0 ∷ leader 3 0 ∷ reason 0 3 (1 ∷ 2 ∷ 3 ∷ 4 ∷ 5 ∷ []) ∷ apart 0 4 ∷ leader 4 4
-          ∷ reason 2 1 (1 ∷ 2 ∷ 4 ∷ []) ∷ reason 4 4 [] ∷ classes 4 ∷ idle 2 ∷ [];
+          ∷ reason 2 1 (1 ∷ 2 ∷ 4 ∷ []) ∷ reason 4 4 [] ∷ classes 4 ∷ idle 0 ∷ [];
     }
     ∷ []
 
@@ -119,13 +119,13 @@ twins =
     ∷ record { tags = 4; records = app 0 1 0 ∷ app 2 1 3 ∷ eq 0 2 ∷ []; before = 3; claims = apart 2 3 ∷ reason 2 3 (1 ∷ 2 ∷ []) ∷ [] }
     -- The inspector's first question, answered from records that stand behind it.
     ∷ record { tags = 8; records = inspector; before = 3; claims = follow 2 3 ∷ reason 2 3 (1 ∷ 2 ∷ 3 ∷ 4 ∷ []) ∷ [] }
-    -- The inspector's other questions, each answer changed in one place. An empty list as every reason; a spare record; all records so far.
+    -- The inspector's other questions, each answer changed in one place. An empty list as every reason; a spare record; all records so far; as idle the records that joined nothing.
     ∷ record {
       tags = 8;
       records = inspector;
       before = 5;
       claims =
           apart 0 3 ∷ leader 0 1 ∷ leader 3 1 ∷ reason 0 3 (1 ∷ 2 ∷ 3 ∷ 5 ∷ []) ∷ reason 0 3 [] ∷ follow 0 4 ∷ leader 4 0
-          ∷ reason 2 1 (1 ∷ 2 ∷ 3 ∷ 4 ∷ []) ∷ reason 2 1 (1 ∷ 2 ∷ 3 ∷ 4 ∷ 5 ∷ []) ∷ reason 4 4 (1 ∷ []) ∷ classes 5 ∷ idle 1 ∷ [];
+          ∷ reason 2 1 (1 ∷ 2 ∷ 3 ∷ 4 ∷ []) ∷ reason 2 1 (1 ∷ 2 ∷ 3 ∷ 4 ∷ 5 ∷ []) ∷ reason 4 4 (1 ∷ []) ∷ classes 5 ∷ idle 2 ∷ [];
     }
     ∷ []

@@ -8,4 +8,5 @@ pub mod Totals
 pub mod Cases
 pub mod Forest
 pub mod Walk
+pub mod Sifting
 pub mod Needed

@@ -34,7 +34,7 @@ pub data Answers (M : Matter) (b : Moment) : Question → List ℕ → Type 0 wh
 
 -- 8F (143): number of classes, number of idle records, at the end of the job.
 pub data Totalled (M : Matter) : List ℕ → Type 0 where
-  total : {c i : ℕ} → Classes (M .head .size) (UpTo (M .records) (length (M .records))) c → Idles (M .head .size) (M .records) i → Totalled M (field 143 (numbers (c ∷ i ∷ [])))
+  total : {c i : ℕ} → Classes (M .head .size) (UpTo (M .records) (length (M .records))) c → Idles (M .records) i → Totalled M (field 143 (numbers (c ∷ i ∷ [])))
 
 -- A sound report of the items from a moment on: each question is answered at its moment, and the totals close the report.
 pub data Sound (M : Matter) : Moment → List Item → List ℕ → Type 0 where

@@ -129,13 +129,13 @@ module _ (M : Matter) where
   question-decided b (explain s t) bs = explain-decided b s t bs
 
   totals-decided : (bs : List ℕ) → Dec (Stands (Totalled M) bs)
-  totals-decided bs = go (countIt (λ x. Leader (UpTo rs (length rs)) x x) (λ x. decLeader rs (λ n. leb n (length rs)) (λ n. n ≤ length rs) (upTo-test (length rs)) x x) N) (countIt (Idle N rs) (decIdle N rs) (length rs))
+  totals-decided bs = go (countIt (λ x. Leader (UpTo rs (length rs)) x x) (λ x. decLeader rs (λ n. leb n (length rs)) (λ n. n ≤ length rs) (upTo-test (length rs)) x x) N) (countIt (Idle rs) (decIdle rs) (length rs))
     where
-      of : {c i : ℕ} → Classes N (UpTo rs (length rs)) c → Idles N rs i → Dec (Begins bs (field 143 (numbers (c ∷ i ∷ [])))) → Dec (Stands (Totalled M) bs)
+      of : {c i : ℕ} → Classes N (UpTo rs (length rs)) c → Idles rs i → Dec (Begins bs (field 143 (numbers (c ∷ i ∷ [])))) → Dec (Stands (Totalled M) bs)
       of {c} {i} h k (yes z) = yes (stands-in (field 143 (numbers (c ∷ i ∷ []))) (z .0) (total h k) (sym (z .1)))
       of h k (no z) = no (λ s. z (totals-right h k s))
 
-      go : (c : ℕ) × Classes N (UpTo rs (length rs)) c → (i : ℕ) × Idles N rs i → Dec (Stands (Totalled M) bs)
+      go : (c : ℕ) × Classes N (UpTo rs (length rs)) c → (i : ℕ) × Idles rs i → Dec (Stands (Totalled M) bs)
       go c i = of (c .1) (i .1) (begins-decided (field 143 (numbers (c .0 ∷ i .0 ∷ []))) bs)
 
   -- The report of the items, from a place on, is sound or has a first place at fault.

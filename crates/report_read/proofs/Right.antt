@@ -50,7 +50,7 @@ module _ {M : Matter} {b : Moment} {s t : ℕ} where
   follows-right f (stands (because {L = L} r) rest) = (L, r, (rest, refl))
   follows-right f (stands (apart h) rest) = absurd (h f)
 
-pub totals-right : {M : Matter} {bs : List ℕ} {c i : ℕ} → Classes (M .head .size) (UpTo (M .records) (length (M .records))) c → Idles (M .head .size) (M .records) i → Stands (Totalled M) bs → Begins bs (field 143 (numbers (c ∷ i ∷ [])))
+pub totals-right : {M : Matter} {bs : List ℕ} {c i : ℕ} → Classes (M .head .size) (UpTo (M .records) (length (M .records))) c → Idles (M .records) i → Stands (Totalled M) bs → Begins bs (field 143 (numbers (c ∷ i ∷ [])))
 totals-right {c = c} {i = i} h k (stands (total {c = c′} {i = i′} h′ k′) rest) =
     let p : c′ ≡ c = classes-one h′ h in
     let q : i′ ≡ i = idles-one k′ k in

@@ -27,4 +27,4 @@ pub data Meant (M : Matter) : Moment → List Item → List ℕ → Type 0 where
   apart : {b : Moment} {s t : ℕ} {is : List Item} {x : List ℕ} → (Follows (UpTo (M .records) (b .records)) s t → ⊥)
       → Meant M (after (posed (explain s t)) b) is x → Meant M b (posed (explain s t) ∷ is) (line 78 (s ∷ t ∷ []) ++ x)
   -- `T classes idle`: at the end of the job
-  totals : {b : Moment} {c i : ℕ} → Classes (M .head .size) (UpTo (M .records) (length (M .records))) c → Idles (M .head .size) (M .records) i → Meant M b [] (line 84 (c ∷ i ∷ []))
+  totals : {b : Moment} {c i : ℕ} → Classes (M .head .size) (UpTo (M .records) (length (M .records))) c → Idles (M .records) i → Meant M b [] (line 84 (c ∷ i ∷ []))

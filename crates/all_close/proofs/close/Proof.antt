@@ -16,7 +16,7 @@ use Rattle.all_close.proofs.close.Tie as tie
 use Rattle.all_close.proofs.Moments.{between-start, idle-turn, close-done}
 
 abbrev Inv-loop : tie.InvT-loop
-Inv-loop work₀ size len joins₀ idle₀ i₀ work joins idle i = (i ≤ len) × Within behindColumns work₀ work × Between size len i work joins × Count (Idle size (recordsIn len work)) i idle
+Inv-loop work₀ size len joins₀ idle₀ i₀ work joins idle i = (i ≤ len) × Within behindColumns work₀ work × Between size len i work joins × Count (Idle (recordsIn len work)) i idle
 
 abbrev μ-loop : tie.MeasureT-loop
 μ-loop work₀ size len joins₀ idle₀ i₀ work joins idle i = len - i
@@ -46,7 +46,7 @@ loop-again c =
       omega arith,
       within-trans (l .loop .inv .1) (a .frame),
       rw add-one (a .between),
-      idle-turn (l .loop .inv .2) a (l .loop .inv .3) (c .if1 .idle) (⊎-elim (λ z. inl (z .0 .taken, z .1)) (λ z. inr (z .0 .left, z .1)) (c .if1 .came)),
+      idle-turn a (l .loop .inv .3) (c .if1 .idle) (⊎-elim (λ z. inl (z .0 .taken, z .1)) (λ z. inr (z .0 .left, z .1)) (c .if1 .came)),
     )
 
 same-length : tie.Need-same-length Inv-loop μ-loop

@@ -11,7 +11,7 @@ use Rattle.table.specs.Map.{leftOf, rightOf, useOf}
 use Rattle.table.specs.Places.{Large}
 use Rattle.all_close.proofs.enter.Statement.{statement}
 use Rattle.all_close.proofs.enter.Tie as tie
-use Rattle.all_close.proofs.Entering.{counted-open, next-low, next-left, next-right, Stored, stored-as, entered}
+use Rattle.all_close.proofs.Entering.{counted-entered, next-low, next-left, next-right, Stored, stored-as, entered}
 
 low : (s : tie.Start) → s .args .i < mostRecords
 low s = next-low (s .pre .0 .between) (s .pre .0 .low)
@@ -100,8 +100,7 @@ returns c =
     let v = p .before .before .before .before in
     let u = v .before .before .before .before .before .before in
     let s = at-start (right-of u) in
-    let e = entered (s .pre .0 .between) (s .pre .0 .low) (s .pre .1) (first u) (second v) (p .put-wait .ensures) in
-    (e .0, counted-open (s .pre .0 .counted) (e .1))
+    counted-entered (s .pre .0 .counted) (entered (s .pre .0 .between) (s .pre .0 .low) (s .pre .1) (first u) (second v) (p .put-wait .ensures))
 
 pub enter-spec : {M : Type 1} → statement M
 enter-spec =

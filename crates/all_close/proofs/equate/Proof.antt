@@ -7,10 +7,10 @@ use native.Mathlib.Omega.{arith}
 use Rattle.meaning.specs.Limits.{mostRecords}
 use Rattle.table.specs.Map.{leftOf, rightOf, labelOf}
 use Rattle.table_labels.specs.Parts.{keyIn}
-use Rattle.all_index.proofs.Views.{wide, row-readable}
+use Rattle.all_index.proofs.Views.{row-readable}
 use Rattle.all_close.proofs.equate.Statement.{statement}
 use Rattle.all_close.proofs.equate.Tie as tie
-use Rattle.all_close.proofs.Entering.{counted-open, next-low, equate-chain, equate-standing, equate-key, equate-stay, equate-joining, equate-joined}
+use Rattle.all_close.proofs.Entering.{counted-equated, next-low, equate-standing, equate-key, equate-stay, equate-joining, equate-joined}
 
 -- No link.
 none : 0 ≤ mostRecords
@@ -62,8 +62,7 @@ returns c =
     let k = c .before .before .before in
     let p = put-of k in
     let s = begun p in
-    let e = p .put-chain .ensures in
-    (wide (equate-chain (s .pre .0 .between) (s .pre .0 .low) (s .pre .1) _ e), counted-open (s .pre .0 .counted) (equate-stay (s .pre .0 .between) (s .pre .0 .low) (s .pre .1) _ e (sym (labels k .0) ∙ c .if1 .taken ∙ labels k .1)), omega arith)
+    counted-equated (s .pre .0 .counted) (equate-stay (s .pre .0 .between) (s .pre .0 .low) (s .pre .1) _ (p .put-chain .ensures) (sym (labels k .0) ∙ c .if1 .taken ∙ labels k .1))
 
 join-requires : tie.Need-join-requires
 join-requires c κs =
@@ -88,8 +87,7 @@ returns-2 c =
     let k = key-of j in
     let p = put-of k in
     let s = begun p in
-    let z = equate-joined (s .pre .0 .between) (s .pre .0 .low) (s .pre .1) _ (p .put-chain .ensures) (s .pre .0 .counted) (labels k .0) (labels k .1) (j .join .ensures) in
-    (z .0, counted-open (s .pre .0 .counted) (z .1), z .2)
+    counted-equated (s .pre .0 .counted) (equate-joined (s .pre .0 .between) (s .pre .0 .low) (s .pre .1) _ (p .put-chain .ensures) (s .pre .0 .counted) (labels k .0) (labels k .1) (j .before .before .if1 .left) (j .join .ensures))
 
 pub equate-spec : {M : Type 1} → statement M
 equate-spec =
