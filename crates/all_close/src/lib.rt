@@ -16,8 +16,7 @@ ghost use Rattle.all_close.specs.Closing.{Closing};
 ghost use Rattle.all_close.specs.State.{Between, Coming, Looked, Again, Entered, Equated, Admitted, Unlinked, Begun};
 use all_index::Front;
 use all_settle::Progress;
-use meaning::RecordNo;
-use meaning::Tag;
+use meaning::NO_RECORD;
 
 // What a run of the closure found: the joins it made, and how many records are idle.
 pub struct Totals {
@@ -54,15 +53,15 @@ fn equate(work: &mut [u16], front: Front, i: usize, joins: usize) -> Progress
     let r = all_index::number(i);
     table::put_chain(work, i, 0);
     let x = table_labels::key(work, r);
-    let a = Tag((x / 65536) as u16);
-    let b = Tag((x % 65536) as u16);
-    if a.0 == b.0 {
+    let a = table::tag_at(x / 65536);
+    let b = table::tag_at(x % 65536);
+    if a.is(b) {
         return Progress {
             joins: joins,
             first: 0,
         };
     }
-    let first = all_join::join(work, front, joins, 0, r, RecordNo(0), a, b);
+    let first = all_join::join(work, front, joins, 0, r, NO_RECORD, a, b);
     Progress {
         joins: joins + 1,
         first: first,
@@ -79,7 +78,7 @@ fn again(work: &[u16], front: Front, p: usize, i: usize) -> bool
     }
     let c = all_settle::outcome(work, all_index::number(p - 1));
     let d = all_settle::outcome(work, all_index::number(i));
-    c.0 == d.0
+    c.is(d)
 }
 
 // The application at place i comes in, and what waits then is met. It is looked up once, before it is in: that tells whether it is idle, and where it goes.

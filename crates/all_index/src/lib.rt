@@ -25,14 +25,14 @@ pub struct Front {
 }
 
 // The number of buckets.
-pub const BUCKETS: usize = 761;
+pub const BUCKET_COUNT: usize = 761;
 
 // The number of the record at a place.
 pub fn number(j: usize) -> RecordNo
     requires { ⌜ j < mostRecords ⌝ }
     ensures { λ r. ⌜ r .0 ≡ suc j ⌝ }
 {
-    RecordNo((j + 1) as u16)
+    table::record_at(j + 1)
 }
 
 // The first link of a chain whose record has the key x, or 0.
@@ -111,7 +111,7 @@ fn touch(work: &mut [u16], front: Front, j: usize, first: usize) -> usize
         return first;
     }
     let x = table_labels::key(work, number(j));
-    let b = x % BUCKETS;
+    let b = x % BUCKET_COUNT;
     let q = above(work, front, b, j);
     take_out(work, front, b, q, j, first);
     j + 1
@@ -146,7 +146,7 @@ fn touch_labelled(work: &mut [u16], front: Front, hi: Tag, x: Tag, first: usize)
     ensures { λ r. ⌜ Touched front (now (work .entry)) (now (work .exit)) r × ((j : ℕ) → j < front .places → eqnAt (now (work .entry)) j ≡ false → labelOf (now (work .entry)) (x .0) ≡ hi .0 → (leftOf (now (work .entry)) (suc j) ≡ x .0) ⊎ (rightOf (now (work .entry)) (suc j) ≡ x .0) → chainOf (now (work .exit)) j ≡ 0) ⌝ }
 {
     let l = table::label(work, x);
-    if l.0 == hi.0 {
+    if l.is(hi) {
         return touch_tag(work, front, x, first);
     }
     first
@@ -164,11 +164,11 @@ pub fn touch_class(
     requires { ⌜ Indexed front (now work) first × (top .0 < mostTags) × ((x : ℕ) → labelOf (now work) x ≡ gone .0 → (from .0 ≤ x) × (x ≤ top .0)) ⌝ }
     ensures { λ r. ⌜ Touched front (now (work .entry)) (now (work .exit)) r × ((j : ℕ) → j < front .places → eqnAt (now (work .entry)) j ≡ false → (labelOf (now (work .entry)) (leftOf (now (work .entry)) (suc j)) ≡ gone .0) ⊎ (labelOf (now (work .entry)) (rightOf (now (work .entry)) (suc j)) ≡ gone .0) → chainOf (now (work .exit)) j ≡ 0) ⌝ }
 {
-    let n = top.0 as usize;
-    let mut x = from.0 as usize;
+    let n = table::tag_place(top);
+    let mut x = table::tag_place(from);
     let mut to = first;
     while x <= n {
-        to = touch_labelled(work, front, gone, Tag(x as u16), to);
+        to = touch_labelled(work, front, gone, table::tag_at(x), to);
         x += 1;
     }
     to

@@ -45,19 +45,19 @@ fn rename(work: &mut [u16], kept: Tag, gone: Tag, from: Tag, top: Tag)
     requires { ⌜ Large (now work) × (from .0 ≤ top .0) × (top .0 < mostTags) × ((x : ℕ) → labelOf (now work) x ≡ gone .0 → (from .0 ≤ x) × (x ≤ top .0)) ⌝ }
     ensures { λ _. ⌜ Relabelled (now (work .entry)) (now (work .exit)) (kept .0) (gone .0) ⌝ }
 {
-    let start = table::LABEL + from.0 as usize;
-    let end = table::LABEL + top.0 as usize;
-    table_labels::relabel(&mut work[start..end + 1], gone.0, kept.0);
+    let start = table::LABEL + table::tag_place(from);
+    let end = table::LABEL + table::tag_place(top);
+    table_labels::rename(&mut work[start..end + 1], gone, kept);
 }
 
 // The larger of two tags.
 fn higher(a: Tag, b: Tag) -> Tag
     ensures { λ r. ⌜ (a .0 ≤ r .0) × (b .0 ≤ r .0) × ((r .0 ≡ a .0) ⊎ (r .0 ≡ b .0)) ⌝ }
 {
-    if a.0 >= b.0 {
-        return a;
+    if a.below(b) {
+        return b;
     }
-    b
+    a
 }
 
 // The first tag with the label r, which r has itself.
@@ -65,11 +65,13 @@ fn first_with(work: &[u16], r: Tag) -> Tag
     requires { ⌜ Large (now work) × (r .0 < mostTags) × (labelOf (now work) (r .0) ≡ r .0) ⌝ }
     ensures { λ x. ⌜ (labelOf (now (work .entry)) (x .0) ≡ r .0) × ((y : ℕ) → y < x .0 → labelOf (now (work .entry)) y ≢ r .0) ⌝ }
 {
-    let mut x: u16 = 0;
-    while x < r.0 {
-        let l = table::label(work, Tag(x));
-        if l.0 == r.0 {
-            return Tag(x);
+    let n = table::tag_place(r);
+    let mut x: usize = 0;
+    while x < n {
+        let t = table::tag_at(x);
+        let l = table::label(work, t);
+        if l.is(r) {
+            return t;
         }
         x += 1;
     }
@@ -127,7 +129,7 @@ fn keep(
     let weight = joint(table::age(work, x), table::age(work, y));
     let mut lo = x;
     let mut hi = y;
-    if y.0 < x.0 {
+    if y.below(x) {
         lo = y;
         hi = x;
     }
@@ -158,7 +160,7 @@ fn unite(
         joins,
         one,
         other,
-        RecordNo(n as u16),
+        table::record_at(n),
         kept.leader,
         gone.leader,
     );
@@ -171,7 +173,7 @@ fn is_fewer(work: &[u16], x: Tag, y: Tag) -> bool
 {
     let a = table::age(work, x);
     let b = table::age(work, y);
-    if a == b { y.0 < x.0 } else { a < b }
+    if a == b { y.below(x) } else { a < b }
 }
 
 // The classes labelled a and b become one, under the label of that with more tags.

@@ -38,7 +38,7 @@ fn unify(work: &mut [u16], front: Front, p: usize, j: usize, joins: usize) -> Pr
     let r = all_index::number(j);
     let c = outcome(work, q);
     let d = outcome(work, r);
-    if c.0 == d.0 {
+    if c.is(d) {
         let next = table::wait_after(work, j);
         table::put_chain(work, j, 0);
         return Progress {
@@ -58,7 +58,7 @@ pub fn look_up(work: &[u16], front: Front, x: usize) -> usize
     requires { ⌜ Filing front (now work) ⌝ }
     ensures { λ p. ⌜ p ≡ foundIn (now (work .entry)) x ⌝ }
 {
-    let from = table::bucket(work, x % all_index::BUCKETS);
+    let from = table::bucket(work, x % all_index::BUCKET_COUNT);
     all_index::seek(work, front, from, x)
 }
 
@@ -75,7 +75,7 @@ pub fn resolve(
     ensures { λ r. ⌜ Gone front (now (work .entry)) joins (now (work .exit)) (r .joins) (r .first) ⌝ }
 {
     if p == 0 {
-        let b = x % all_index::BUCKETS;
+        let b = x % all_index::BUCKET_COUNT;
         let q = all_index::above(work, front, b, j);
         let next = all_index::file(work, front, b, q, j);
         return Progress {

@@ -27,9 +27,9 @@ pub fn rubbish_of(salt: usize) -> Rubbish {
 pub fn record_of(r: Rubbish) -> Record {
     Record {
         kind: r.first,
-        a: Tag(r.step),
-        b: Tag(r.first),
-        c: Tag(r.first),
+        a: Tag::of(r.step),
+        b: Tag::of(r.first),
+        c: Tag::of(r.first),
     }
 }
 

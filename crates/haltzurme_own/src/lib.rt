@@ -11,7 +11,7 @@ use call_rest::Answer;
 use call_rest::Finding;
 use call_rest::finish;
 use call_rest::weigh;
-use meaning::Tag;
+use meaning::NO_TAG;
 use records::Record;
 
 // The 4,000 places of the table all hold the same record.
@@ -36,9 +36,9 @@ fn none() -> Record
 {
     Record {
         kind: 0,
-        a: Tag(0),
-        b: Tag(0),
-        c: Tag(0),
+        a: NO_TAG,
+        b: NO_TAG,
+        c: NO_TAG,
     }
 }
 

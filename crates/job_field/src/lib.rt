@@ -185,12 +185,15 @@ fn number(job: &[u8], at: usize) -> u16
 fn meant(kind: Kind, a: u16, b: u16, c: u16) -> Field
     ensures { λ r. ⌜ said r ≡ says (kindOf kind) a b c ⌝ }
 {
+    let x = Tag::of(a);
+    let y = Tag::of(b);
+    let z = Tag::of(c);
     match kind {
         Kind::First => Field::Header(a),
-        Kind::Equal => Field::Noted(Line::Equation(Tag(a), Tag(b))),
-        Kind::Apply => Field::Noted(Line::Application(Tag(a), Tag(b), Tag(c))),
-        Kind::Asked => Field::Posed(Query::Ask(Tag(a), Tag(b))),
-        Kind::Explained => Field::Posed(Query::Explain(Tag(a), Tag(b))),
+        Kind::Equal => Field::Noted(Line::Equation(x, y)),
+        Kind::Apply => Field::Noted(Line::Application(x, y, z)),
+        Kind::Asked => Field::Posed(Query::Ask(x, y)),
+        Kind::Explained => Field::Posed(Query::Explain(x, y)),
         Kind::Last => Field::End,
         Kind::Unknown => Field::Bad(Fault::Misplaced),
     }

@@ -75,7 +75,7 @@ fn is_size(n: u16) -> bool
 fn is_below(tag: Tag, size: u16) -> bool
     ensures { λ r. ⌜ r ≡ ltb (tag .0) size ⌝ }
 {
-    tag.0 < size
+    tag.is_of(size)
 }
 
 // The tags of a field, in the order of the job's table.

@@ -19,7 +19,7 @@ fn came(work: &[u16], q: Question) -> usize
 {
     let s = q.s;
     let t = q.t;
-    if s.0 == t.0 {
+    if s.is(t) {
         return 0;
     }
     let b = moment::met(work, s, t);

@@ -28,7 +28,7 @@ fn join(work: &mut [u16], task: Task, a: Tag, b: Tag)
     requires { ⌜ Joining task (now work) (a .0) (b .0) ⌝ }
     ensures { λ _. ⌜ Joined task (now (work .entry)) (now (work .exit)) ⌝ }
 {
-    if a.0 < b.0 {
+    if a.below(b) {
         table_labels::merge(work, task.size, a, b);
     } else {
         table_labels::merge(work, task.size, b, a);
@@ -42,7 +42,7 @@ pub fn meet(work: &mut [u16], task: Task, s: Tag, t: Tag, joins: usize) -> usize
 {
     let a = table::label(work, s);
     let b = table::label(work, t);
-    if a.0 == b.0 {
+    if a.is(b) {
         return joins;
     }
     join(work, task, a, b);

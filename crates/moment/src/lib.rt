@@ -13,20 +13,13 @@ use meaning::Tag;
 
 // When two tags came together, and who led them: the links are climbed by their ages.
 
-// A two-byte number among the others.
-pub fn wide(x: u16) -> usize
-    ensures { λ r. ⌜ r ≡ x ⌝ }
-{
-    x as usize
-}
-
 // The number of the record at which a join was made.
 pub fn made(work: &[u16], a: usize) -> usize
     requires { ⌜ Large (now work) × (a < mostTags) ⌝ }
     ensures { λ k. ⌜ k ≡ whenOf (now (work .entry)) a ⌝ }
 {
     let k = table::when(work, a);
-    wide(k.0)
+    table::record_place(k)
 }
 
 // How many of the joins had been made once record `before` was in.
@@ -67,7 +60,7 @@ pub fn met(work: &[u16], s: Tag, t: Tag) -> usize
     let mut x = s;
     let mut y = t;
     let mut newest: usize = 0;
-    while x.0 != y.0 {
+    while !x.is(y) {
         let a = table::age(work, x);
         let b = table::age(work, y);
         if a <= b {

@@ -44,7 +44,7 @@ pub fn explain(
     requires { ⌜ Question size len joins before (s .0) (t .0) (now work) ⌝ }
     ensures { λ r. ⌜ Explained size len joins before (s .0) (t .0) (now (work .entry)) (now (work .exit)) r ⌝ }
 {
-    if s.0 == t.0 {
+    if s.is(t) {
         return Answer::Because(0);
     }
     let b = moment::met(work, s, t);

@@ -24,7 +24,7 @@ fn ends(work: &[u16], b: usize) -> Pair
 {
     let p = table::first(work, b);
     let q = table::second(work, b);
-    if q.0 == 0 {
+    if q.is_none() {
         Pair {
             near: table::left(work, p),
             far: table::right(work, p),
@@ -47,7 +47,7 @@ fn sides(work: &[u16], s: Tag, t: Tag, b: usize) -> Pair
     let far = e.far;
     let l = moment::leader(work, b, s);
     let m = moment::leader(work, b, near);
-    if l.0 == m.0 {
+    if l.is(m) {
         Pair {
             near: near,
             far: far,
@@ -93,7 +93,7 @@ pub fn trace(work: &mut [u16], s: Tag, t: Tag, limit: usize)
     requires { ⌜ Together (now work) (s .0) (t .0) limit ⌝ }
     ensures { λ _. ⌜ Traced (now (work .entry)) (now (work .exit)) limit (s .0) (t .0) (tags (s .0) (t .0)) ⌝ }
 {
-    if s.0 != t.0 {
+    if !s.is(t) {
         let b = moment::met(work, s, t);
         let e = sides(work, s, t, b);
         let near = e.near;
@@ -112,7 +112,7 @@ fn take(work: &mut [u16], b: usize)
     if table::mark(work, b) != 1 {
         let k = causes_of(work, b);
         let second = k.second;
-        if second.0 != 0 {
+        if !second.is_none() {
             let a = k.a;
             let a2 = k.a2;
             let c = k.c;

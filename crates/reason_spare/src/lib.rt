@@ -17,7 +17,7 @@ fn list_first(work: &mut [u16], a: usize, c: usize) -> usize
         return c;
     }
     let q = table::second(work, a);
-    if q.0 == 0 {
+    if q.is_none() {
         return c;
     }
     let p = table::first(work, a);

@@ -63,7 +63,7 @@ fn bring(work: &mut [u16], count: usize, p: usize, r: RecordNo) -> usize
     let mut j = p;
     while j < count {
         let x = table::listed(work, j);
-        if x.0 == r.0 {
+        if x.is(r) {
             swap(work, p, j);
             return p + 1;
         }

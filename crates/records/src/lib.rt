@@ -5,6 +5,7 @@ ghost use Prim.Native.Nat.{_<_, _≤_};
 ghost use lib.ListN.{length, set, getD};
 ghost use Rattle.meaning.specs.Limits.{namedPlaces};
 ghost use Rattle.records.specs.Table.{blank, Blanked};
+use meaning::NO_TAG;
 use meaning::Tag;
 
 // The named places.
@@ -41,9 +42,9 @@ pub fn clear(records: &mut [Record])
 {
     let none = Record {
         kind: 0,
-        a: Tag(0),
-        b: Tag(0),
-        c: Tag(0),
+        a: NO_TAG,
+        b: NO_TAG,
+        c: NO_TAG,
     };
     let mut i = 0;
     while i < NAMED {

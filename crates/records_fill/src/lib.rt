@@ -18,13 +18,14 @@ use job_field::Field;
 use job_field::Line;
 use job_field::behind;
 use job_field::read;
-use meaning::RecordNo;
+use meaning::NO_TAG;
 use meaning::Tag;
 use records::Record;
 use records::fetch;
 use records::store;
 use table::put_application;
 use table::put_equation;
+use table::record_at;
 
 // The records of a job as the cursor meets them: the next one at a place, with what is no record passed over, as it stands in the record table.
 // Document 01, "The job and the report".
@@ -45,7 +46,7 @@ fn equation(a: Tag, b: Tag) -> Record
         kind: 1,
         a: a,
         b: b,
-        c: Tag(0),
+        c: NO_TAG,
     }
 }
 
@@ -69,9 +70,9 @@ fn no_record(question: bool, next: usize) -> Found
         question,
         place: Record {
             kind: 0,
-            a: Tag(0),
-            b: Tag(0),
-            c: Tag(0),
+            a: NO_TAG,
+            b: NO_TAG,
+            c: NO_TAG,
         },
         next,
     }
@@ -143,7 +144,7 @@ fn load_one(work: &mut [u16], i: usize, p: Record)
     requires { ⌜ Large (now work) × (i < mostRecords) ⌝ }
     ensures { λ _. ⌜ now (work .exit) ≡ carry (now (work .entry)) i p ⌝ }
 {
-    let r = RecordNo(i as u16 + 1);
+    let r = record_at(i + 1);
     let a = p.a;
     let b = p.b;
     let c = p.c;

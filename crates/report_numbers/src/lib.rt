@@ -23,7 +23,7 @@ fn put_listed(room: &mut [u8], at: usize, work: &[u16], i: usize)
     ensures { λ _. ⌜ now (room .exit) ≡ laid (at + 2 * i) (two (listOf (now (work .entry)) i)) (now (room .entry)) ⌝ }
 {
     let r = table::listed(work, i);
-    put_number(room, at + 2 * i, r.0);
+    put_number(room, at + 2 * i, r.number());
 }
 
 // The answer to an explain where the equality follows: the first numbers of the list.
@@ -45,7 +45,7 @@ fn read_listed(report: &[u8], at: usize, work: &mut [u16], i: usize)
     ensures { λ _. ⌜ Placed (now (report .entry)) (at + 2 * i) i (now (work .entry)) (now (work .exit)) ⌝ }
 {
     let n = number_in(report, at + 2 * i);
-    table::put_listed(work, i, RecordNo(n));
+    table::put_listed(work, i, RecordNo::of(n));
 }
 
 // The numbers of a reason come to the front of the list.
@@ -66,7 +66,7 @@ fn is_listed(report: &[u8], at: usize, work: &[u16], i: usize) -> bool
     ensures { λ r. ⌜ (r ≡ true) ↔ Holds (now (report .entry)) (at + 2 * i) (two (listOf (now (work .entry)) i)) ⌝ }
 {
     let r = table::listed(work, i);
-    number_in(report, at + 2 * i) == r.0
+    number_in(report, at + 2 * i) == r.number()
 }
 
 // Whether the first numbers of the list stand at a place, one behind the other.

@@ -75,7 +75,7 @@ pub fn is_led(report: &[u8], at: usize, l: Tag, m: Tag) -> bool
     requires { ⌜ at ≤ length (now report) ⌝ }
     ensures { λ r. ⌜ (r ≡ true) ↔ Holds (now (report .entry)) at (field 131 (numbers (l .0 ∷ m .0 ∷ []))) ⌝ }
 {
-    is_pair(report, at, LED, l.0, m.0)
+    is_pair(report, at, LED, l.number(), m.number())
 }
 
 // Whether these totals stand at a place.

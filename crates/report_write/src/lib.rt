@@ -43,7 +43,7 @@ pub fn write_led(room: &mut [u8], at: usize, l: Tag, m: Tag)
     requires { ⌜ at + 7 ≤ length (now room) ⌝ }
     ensures { λ _. ⌜ now (room .exit) ≡ laid at (field 131 (numbers (l .0 ∷ m .0 ∷ []))) (now (room .entry)) ⌝ }
 {
-    put_pair(room, at, LED, l.0, m.0);
+    put_pair(room, at, LED, l.number(), m.number());
 }
 
 // A field without a body.

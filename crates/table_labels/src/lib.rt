@@ -35,12 +35,6 @@ const FEW_HEADS: usize = HEADS + FEW_BUCKETS;
 // How far behind its label a tag's saved label stands.
 const GAP: usize = SAVED - LABEL;
 
-fn wide(x: u16) -> usize
-    ensures { λ r. ⌜ r ≡ x ⌝ }
-{
-    x as usize
-}
-
 // Every number becomes v.
 pub fn fill(part: &mut [u16], v: u16)
     ensures { λ _. ⌜ Fills (now (part .exit)) v ⌝ }
@@ -65,7 +59,7 @@ pub fn count_up(part: &mut [u16])
 }
 
 // Every hi becomes lo. Written as a choice of values, so that it is compiled to vector code.
-pub fn relabel(part: &mut [u16], hi: u16, lo: u16)
+fn relabel(part: &mut [u16], hi: u16, lo: u16)
     ensures { λ _. ⌜ now (part .exit) ≡ map (into lo hi) (now (part .entry)) ⌝ }
 {
     let mut i = 0;
@@ -103,12 +97,19 @@ fn lower(part: &mut [u16], gap: usize)
     }
 }
 
+// The label hi becomes lo in a part of the labels.
+pub fn rename(part: &mut [u16], hi: Tag, lo: Tag)
+    ensures { λ _. ⌜ now (part .exit) ≡ map (into (lo .0) (hi .0)) (now (part .entry)) ⌝ }
+{
+    relabel(part, hi.number(), lo.number());
+}
+
 // The label hi becomes lo for every tag. Only the job's tags, those below `size`, can have another's label.
 pub fn merge(work: &mut [u16], size: usize, lo: Tag, hi: Tag)
     requires { ⌜ Large (now work) × (size ≤ mostTags) × (hi .0 < size) × Own size (labelOf (now work)) ⌝ }
     ensures { λ _. ⌜ Relabelled (now (work .entry)) (now (work .exit)) (lo .0) (hi .0) ⌝ }
 {
-    relabel(&mut work[LABEL..LABEL + size], hi.0, lo.0);
+    rename(&mut work[LABEL..LABEL + size], hi, lo);
 }
 
 // Each tag is its own label.
@@ -171,7 +172,7 @@ pub fn key(work: &[u16], r: RecordNo) -> usize
     let b = table::right(work, r);
     let x = table::label(work, a);
     let y = table::label(work, b);
-    wide(x.0) * 65536 + wide(y.0)
+    x.place() * 65536 + y.place()
 }
 
 // Place i goes to the head of a bucket's chain.
@@ -191,5 +192,5 @@ pub fn level(work: &[u16], s: Tag, t: Tag) -> bool
 {
     let a = table::label(work, s);
     let b = table::label(work, t);
-    a.0 == b.0
+    a.is(b)
 }

@@ -121,7 +121,7 @@ fn put_totals(report: &[u8], out: &mut [u8], at: usize) -> usize
 fn shown(tag: Tag) -> usize
     ensures { λ r. ⌜ r ≡ tag .0 ⌝ }
 {
-    wide(tag.0)
+    tag.place()
 }
 
 // The line of a question, with the report from its own answer on.

@@ -1,5 +1,6 @@
 -- `again` meets its contract: what was found is an application that is in, and the results' labels are compared.
 -- Assumes nothing.
+use borrow.Author.Needs.{needs}
 use mathlib.Core.Path.{_≡_, ap, _∙_}
 use mathlib.Core.Bool.{false}
 use Prim.Native.Nat.{ℕ, _-_, _<_}
@@ -43,16 +44,19 @@ outcome-requires-2 c κs =
     let s = c .before .before .before .before .before in
     result-fits (s .pre .coming .between .standing .loaded) (s .args .i) (s .pre .coming .low) (s .pre .application) _ (c .number2 .ensures)
 
+is-requires : tie.Need-is-requires
+is-requires c κs = search needs
+
 returns-2 : tie.Need-returns-2
 returns-2 c =
-    let b = c .before .before in
+    let b = c .before .before .before in
     let a = b .before .before in
     let e = a .before .before in
     let s = e .before .before in
     let w = now (s .args .work) in
-    again-same (s .pre .coming .between) (s .args .p) (s .pre .found) _ _ (omega (arith, e .if1 .left))
+    rw (c .is .ensures) (again-same (s .pre .coming .between) (s .args .p) (s .pre .found) _ _ (omega (arith, e .if1 .left))
     (a .outcome .ensures ∙ ap (λ (k : ℕ). labelOf w (resultOf w k)) (a .before .number .ensures))
-    (b .outcome2 .ensures ∙ ap (λ (k : ℕ). labelOf w (resultOf w k)) (b .before .number2 .ensures))
+    (b .outcome2 .ensures ∙ ap (λ (k : ℕ). labelOf w (resultOf w k)) (b .before .number2 .ensures)))
 
 pub again-spec : {M : Type 1} → statement M
 again-spec =
@@ -64,4 +68,5 @@ again-spec =
     outcome-requires
     number-requires-2
     outcome-requires-2
+    is-requires
     returns-2)

@@ -1,6 +1,8 @@
 -- `equate` meets its contract. Where the two tags have one label the equation holds already; otherwise the join is due, and
 -- it holds after that.
 -- Assumes nothing.
+use borrow.Author.Tests.{eqb-true, eqb-false}
+use borrow.Author.Needs.{needs}
 use mathlib.Core.Path.{_≡_, sym, ap, _∙_}
 use Prim.Native.Nat.{ℕ, suc, _/_, _%_, _<_, _≤_}
 use native.Mathlib.Omega.{arith}
@@ -45,35 +47,38 @@ labels k =
     let s = begun p in
     equate-key (s .pre .0 .between) (s .pre .0 .low) (s .pre .1) _ (p .put-chain .ensures) (k .key .result) (k .key .ensures ∙ ap (keyIn (p .put-chain .last .0)) (p .before .before .number .ensures))
 
-cast-t16 : tie.Need-cast-t16
-cast-t16 c = record { fits = labels c .2 }
+tag-at-requires : tie.Need-tag-at-requires
+tag-at-requires c κs = labels c .2
 
 rest-low : (x : ℕ) → x % 65536 < 65536
 rest-low x = omega arith
 
-cast-t16-2 : tie.Need-cast-t16-2
-cast-t16-2 c = record { fits = rest-low (c .key .result) }
+tag-at-requires-2 : tie.Need-tag-at-requires-2
+tag-at-requires-2 c κs = rest-low (c .before .key .result)
+
+is-requires : tie.Need-is-requires
+is-requires c κs = search needs
 
 same-length : tie.Need-same-length
-same-length c = put-of (c .before .before .before) .put-chain .kept .0
+same-length c = put-of (c .before .before .before .before) .put-chain .kept .0
 
 returns : tie.Need-returns
 returns c =
-    let k = c .before .before .before in
-    let p = put-of k in
-    let s = begun p in
-    counted-equated (s .pre .0 .counted) (equate-stay (s .pre .0 .between) (s .pre .0 .low) (s .pre .1) _ (p .put-chain .ensures) (sym (labels k .0) ∙ c .if1 .taken ∙ labels k .1))
-
-join-requires : tie.Need-join-requires
-join-requires c κs =
     let k = c .before .before .before .before in
     let p = put-of k in
     let s = begun p in
-    equate-joining (s .pre .0 .between) (s .pre .0 .low) (s .pre .1) _ (p .put-chain .ensures) _ _ _ _ (s .pre .0 .counted) (p .before .before .number .ensures) (labels k .0) (labels k .1) (c .before .if1 .left)
+    counted-equated (s .pre .0 .counted) (equate-stay (s .pre .0 .between) (s .pre .0 .low) (s .pre .1) _ (p .put-chain .ensures) (sym (labels k .0) ∙ sym (c .before .before .before .tag-at .ensures) ∙ eqb-true _ _ (sym (c .before .is .ensures) ∙ c .if1 .taken) ∙ c .before .before .tag-at2 .ensures ∙ labels k .1))
+
+join-requires : tie.Need-join-requires
+join-requires c κs =
+    let k = c .before .before .before .before .before in
+    let p = put-of k in
+    let s = begun p in
+    equate-joining (s .pre .0 .between) (s .pre .0 .low) (s .pre .1) _ (p .put-chain .ensures) _ _ _ _ (s .pre .0 .counted) (p .before .before .number .ensures) (c .before .before .before .before .tag-at .ensures ∙ labels k .0) (c .before .before .before .tag-at2 .ensures ∙ labels k .1) (eqb-false _ _ (sym (c .before .before .is .ensures) ∙ c .before .if1 .left))
 
 -- After the join.
 abbrev key-of : tie.After-join → tie.After-key
-key-of j = j .before .before .before .before .before
+key-of j = j .before .before .before .before .before .before
 
 add-t15 : tie.Need-add-t15
 add-t15 c = let s = begun (put-of (key-of (c .before .before))) in record { fits = omega (arith, s .pre .0 .between .standing .total, s .pre .0 .between .standing .loaded .few) }
@@ -87,7 +92,7 @@ returns-2 c =
     let k = key-of j in
     let p = put-of k in
     let s = begun p in
-    counted-equated (s .pre .0 .counted) (equate-joined (s .pre .0 .between) (s .pre .0 .low) (s .pre .1) _ (p .put-chain .ensures) (s .pre .0 .counted) (labels k .0) (labels k .1) (j .before .before .if1 .left) (j .join .ensures))
+    counted-equated (s .pre .0 .counted) (equate-joined (s .pre .0 .between) (s .pre .0 .low) (s .pre .1) _ (p .put-chain .ensures) (s .pre .0 .counted) (j .before .before .before .before .before .tag-at .ensures ∙ labels k .0) (j .before .before .before .before .tag-at2 .ensures ∙ labels k .1) (eqb-false _ _ (sym (j .before .before .before .is .ensures) ∙ j .before .before .if1 .left)) (j .join .ensures))
 
 pub equate-spec : {M : Type 1} → statement M
 equate-spec =
@@ -96,8 +101,9 @@ equate-spec =
     number-requires
     put-chain-requires
     key-requires
-    cast-t16
-    cast-t16-2
+    tag-at-requires
+    tag-at-requires-2
+    is-requires
     same-length
     returns
     join-requires

@@ -2,7 +2,9 @@
 -- Assumes nothing.
 use Prim.Native.Nat.{ℕ, _+_, _≤_, _<_}
 use native.Mathlib.Omega.{arith}
-use mathlib.Core.Path.{_≡_, ap, _∙_}
+use borrow.Author.Needs.{needs}
+use borrow.Author.Tests.{ltb-true, ltb-false}
+use mathlib.Core.Path.{_≡_, sym, ap, _∙_}
 use mathlib.Core.Logic.{_⊎_, ⊎-elim, inl, inr}
 use mathlib.Core.List.{List}
 use lib.ListN.{set}
@@ -30,12 +32,15 @@ age-requires-2 c κs = let s = c .before .before .before .before .before .before
 joint-requires : tie.Need-joint-requires
 joint-requires c κs = tt
 
+below-requires : tie.Need-below-requires
+below-requires c κs = search needs
+
 -- The two leaders in order.
 abbrev start : tie.Joined1 → tie.Start
-start o = o .before .before .before .before .before .before .before .before .before .before .before .before .before .before
+start o = o .before .before .before .before .before .before .before .before .before .before .before .before .before
 
 order : (o : tie.Joined1) → let s = start o in ((s .args .x .0 ≤ s .args .y .0) × (o .if1 .lo .0 ≡ s .args .x .0) × (o .if1 .hi .0 ≡ s .args .y .0)) ⊎ ((s .args .y .0 < s .args .x .0) × (o .if1 .lo .0 ≡ s .args .y .0) × (o .if1 .hi .0 ≡ s .args .x .0))
-order o = ⊎-elim (λ z. inr (omega (arith, z .0 .taken), ap (λ (x : Tag). x .0) (z .1), ap (λ (x : Tag). x .0) (z .2))) (λ z. inl (omega (arith, z .0 .left), ap (λ (x : Tag). x .0) (z .1), ap (λ (x : Tag). x .0) (z .2))) (o .if1 .came)
+order o = ⊎-elim (λ z. inr (ltb-true (start o .args .y .0) (start o .args .x .0) (sym (o .before .below .ensures) ∙ z .0 .taken), ap (λ (x : Tag). x .0) (z .1), ap (λ (x : Tag). x .0) (z .2))) (λ z. inl (ltb-false (start o .args .y .0) (start o .args .x .0) (sym (o .before .below .ensures) ∙ z .0 .left), ap (λ (x : Tag). x .0) (z .1), ap (λ (x : Tag). x .0) (z .2))) (o .if1 .came)
 
 low : (o : tie.Joined1) → (o .if1 .lo .0 < mostTags) × (o .if1 .hi .0 < mostTags)
 low o = let s = start o in elim (order o) [ inl h ↦ (omega (arith, h .1, s .pre .1), omega (arith, h .2, s .pre .2)) | inr h ↦ (omega (arith, h .1, s .pre .2), omega (arith, h .2, s .pre .1)) ]
@@ -47,7 +52,7 @@ put-link-requires : tie.Need-put-link-requires
 put-link-requires c κs =
     let n = c .before .before .before in
     let o = n .before .before in
-    (omega (arith, start o .pre .0, n .note .kept .0), low o .0, o .before .before .before .joint .ensures .1)
+    (omega (arith, start o .pre .0, n .note .kept .0), low o .0, o .before .before .joint .ensures .1)
 
 same-length : tie.Need-same-length
 same-length c = c .before .before .put-link .kept .0 ∙ c .before .before .before .before .before .before .note .kept .0
@@ -57,10 +62,10 @@ returns c =
     let l = c .before .before in
     let n = c .before .before .before .before .before .before in
     let o = n .before .before in
-    let j = o .before .before .before in
-    let h = o .before .before .before .before .before .before .before .before in
-    let b = o .before .before .before .before .before .before .before .before .before .parent2 .ensures in
-    let a = o .before .before .before .before .before .before .before .before .before .before .before .parent .ensures in
+    let j = o .before .before in
+    let h = o .before .before .before .before .before .before .before in
+    let b = o .before .before .before .before .before .before .before .before .parent2 .ensures in
+    let a = o .before .before .before .before .before .before .before .before .before .before .parent .ensures in
     record {
       lo = o .if1 .lo .0;
       hi = o .if1 .hi .0;
@@ -82,6 +87,7 @@ keep-spec =
     age-requires
     age-requires-2
     joint-requires
+    below-requires
     note-requires
     put-link-requires
     same-length

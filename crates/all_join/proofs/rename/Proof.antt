@@ -10,35 +10,35 @@ use Rattle.all_join.proofs.rename.Statement.{statement}
 use Rattle.all_join.proofs.rename.Tie as tie
 use Rattle.all_join.proofs.Tops.{renamed-part}
 
-cast-start : tie.Need-cast-start
-cast-start c = search needs
+tag-place-requires : tie.Need-tag-place-requires
+tag-place-requires c κs = search needs
 
 add-start : tie.Need-add-start
-add-start c = let s = c .before .before in record { fits = omega (arith, s .pre .1, s .pre .2) }
+add-start c = let s = c .before .before in record { fits = omega (arith, s .pre .1, s .pre .2, c .tag-place .ensures) }
 
-cast-end : tie.Need-cast-end
-cast-end c = search needs
+tag-place-requires-2 : tie.Need-tag-place-requires-2
+tag-place-requires-2 c κs = search needs
 
 add-end : tie.Need-add-end
-add-end c = let s = c .before .before .before in record { fits = omega (arith, s .pre .2) }
+add-end c = let s = c .before .before .before in record { fits = omega (arith, s .pre .2, c .tag-place2 .ensures) }
 
-add-relabel : tie.Need-add-relabel
-add-relabel c = let s = c .before .before .before in record { fits = omega (arith, s .pre .2) }
+add-rename : tie.Need-add-rename
+add-rename c = let s = c .before .before .before in record { fits = omega (arith, s .pre .2, c .tag-place2 .ensures) }
 
-mul-relabel : tie.Need-mul-relabel
-mul-relabel c = let s = c .before .before .before in record { fits = omega (arith, s .pre .1, s .pre .2) }
+mul-rename : tie.Need-mul-rename
+mul-rename c = let s = c .before .before .before in record { fits = omega (arith, s .pre .1, s .pre .2, c .before .tag-place .ensures) }
 
-sub-relabel : tie.Need-sub-relabel
-sub-relabel c = let s = c .before .before .before in omega (arith, s .pre .1)
+sub-rename : tie.Need-sub-rename
+sub-rename c = let s = c .before .before .before in omega (arith, s .pre .1, c .before .tag-place .ensures, c .tag-place2 .ensures)
 
-part-relabel-start : tie.Need-part-relabel-start
-part-relabel-start c = let s = c .before .before .before in omega (arith, s .pre .0, s .pre .1, s .pre .2)
+part-rename-start : tie.Need-part-rename-start
+part-rename-start c = let s = c .before .before .before in omega (arith, s .pre .0, s .pre .1, s .pre .2, c .before .tag-place .ensures)
 
-part-relabel-end : tie.Need-part-relabel-end
-part-relabel-end c = let s = c .before .before .before in omega (arith, s .pre .0, s .pre .2)
+part-rename-end : tie.Need-part-rename-end
+part-rename-end c = let s = c .before .before .before in omega (arith, s .pre .0, s .pre .2, c .tag-place2 .ensures)
 
-relabel-requires : tie.Need-relabel-requires
-relabel-requires c κs = search needs
+rename-requires : tie.Need-rename-requires
+rename-requires c κs = search needs
 
 same-length : tie.Need-same-length
 same-length c = search needs
@@ -46,22 +46,25 @@ same-length c = search needs
 returns : tie.Need-returns
 returns c =
     let s = c .before .before .before .before .before .before .before in
-    let at = LABEL .at + s .args .from .0 in
-    renamed-part (now (s .args .work)) _ (c .before .before .relabel .last .0) (s .args .kept .0) (s .args .gone .0) (s .args .from .0) (s .args .top .0) at (LABEL .at + s .args .top .0 + 1 - at) (s .pre .0) (s .pre .1) (s .pre .2) refl (omega (arith, s .pre .1)) (s .pre .3) refl (c .before .before .relabel .ensures)
+    let a = c .before .before .before .before .before .tag-place in
+    let z = c .before .before .before .before .tag-place2 in
+    let at = LABEL .at + a .result in
+    renamed-part (now (s .args .work)) _ (c .before .before .rename .last .0) (s .args .kept .0) (s .args .gone .0) (s .args .from .0) (s .args .top .0) at (LABEL .at + z .result + 1 - at) (s .pre .0) (s .pre .1) (s .pre .2)
+    (omega (arith, a .ensures)) (omega (arith, s .pre .1, a .ensures, z .ensures)) (s .pre .3) refl (c .before .before .rename .ensures)
 
 pub rename-spec : {M : Type 1} → statement M
 rename-spec =
     tie.close
     (tie.spec
-    cast-start
+    tag-place-requires
     add-start
-    cast-end
+    tag-place-requires-2
     add-end
-    add-relabel
-    mul-relabel
-    sub-relabel
-    part-relabel-start
-    part-relabel-end
-    relabel-requires
+    add-rename
+    mul-rename
+    sub-rename
+    part-rename-start
+    part-rename-end
+    rename-requires
     same-length
     returns)

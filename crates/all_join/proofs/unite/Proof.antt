@@ -53,22 +53,22 @@ rename-requires c κs =
 abbrev touched-of : tie.After-rename → tie.After-touch-class
 touched-of m = m .before .before .before .before
 
-cast-t21 : tie.Need-cast-t21
-cast-t21 c =
+record-at-requires : tie.Need-record-at-requires
+record-at-requires c κs =
     let s = at-start (parent-of (touched-of (c .before .before .before))) in
-    record { fits = omega (arith, s .pre .0 .standing .reach, s .pre .0 .standing .loaded .most) }
+    omega (arith, s .pre .0 .standing .reach, s .pre .0 .standing .loaded .most)
 
 long₂ : (m : tie.After-rename) → Large (m .rename .last .0)
 long₂ m = omega (arith, long₁ (touched-of m), m .rename .ensures .frame .size)
 
 keep-requires : tie.Need-keep-requires
 keep-requires c κs =
-    let m = c .before .before .before in
+    let m = c .before .before .before .before in
     let s = at-start (parent-of (touched-of m)) in
     (long₂ m, unite-kept (s .pre .0) (s .pre .1) (s .pre .2), unite-gone (s .pre .0) (s .pre .1) (s .pre .2), unite-young (s .pre .0) (s .pre .1) (s .pre .2))
 
 abbrev renamed-of : tie.After-keep → tie.After-rename
-renamed-of d = d .before .before .before .before
+renamed-of d = d .before .before .before .before .before
 
 same-length : tie.Need-same-length
 same-length c =
@@ -83,7 +83,7 @@ returns c =
     let m = renamed-of d in
     let a = touched-of m in
     let s = at-start (parent-of a) in
-    unite-done (s .pre .0) (s .pre .1) (s .pre .2) (a .touch-class .ensures .0) (a .touch-class .ensures .1) (m .rename .ensures) (d .keep .ensures)
+    unite-done (s .pre .0) (s .pre .1) (s .pre .2) (a .touch-class .ensures .0) (a .touch-class .ensures .1) (m .rename .ensures) (rw (d .before .record-at .ensures) at (d .keep .ensures))
 
 pub unite-spec : {M : Type 1} → statement M
 unite-spec =
@@ -92,7 +92,7 @@ unite-spec =
     parent-requires
     touch-class-requires
     rename-requires
-    cast-t21
+    record-at-requires
     keep-requires
     same-length
     returns)

@@ -1,5 +1,7 @@
 -- `unify` meets its contract. Where the two results have one label nothing more is known than before; otherwise the join is due.
 -- Assumes nothing.
+use borrow.Author.Tests.{eqb-true, eqb-false}
+use borrow.Author.Needs.{needs}
 use mathlib.Core.Path.{_≡_, sym, ap, _∙_}
 use Prim.Native.Nat.{ℕ, _+_, _-_, _<_, _≤_}
 use native.Mathlib.Omega.{arith}
@@ -61,11 +63,14 @@ one a = let w = now (begun a .args .work) in a .before .before .outcome .ensures
 two : (a : tie.After-outcome2) → a .outcome2 .result .0 ≡ resAt (now (begun a .args .work)) (begun a .args .j)
 two a = let w = now (begun a .args .work) in a .outcome2 .ensures ∙ ap (λ (k : ℕ). labelOf w (resultOf w k)) (a .before .before .before .before .number2 .ensures)
 
+is-requires : tie.Need-is-requires
+is-requires c κs = search needs
+
 wait-after-requires : tie.Need-wait-after-requires
-wait-after-requires c κs = let a = c .before .before .before .before in (long (begun a), low (begun a))
+wait-after-requires c κs = let a = c .before .before .before in (long (begun a), low (begun a))
 
 put-chain-requires : tie.Need-put-chain-requires
-put-chain-requires c κs = let a = c .before .before .before .before .before .before in (long (begun a), low (begun a), none)
+put-chain-requires c κs = let a = c .before .before .before .before .before in (long (begun a), low (begun a), none)
 
 same-length : tie.Need-same-length
 same-length c = c .before .before .put-chain .kept .0
@@ -75,28 +80,28 @@ returns c =
     let b = c .before .before in
     let n = b .before .before in
     let i = n .before .before in
-    let a = i .before .before .before in
+    let a = i .before .before in
     let s = begun a in
     let x = now (s .args .work) in
-    unify-stay (s .pre) _ _ (sym (one a) ∙ i .if1 .taken ∙ two a) (n .wait-after .ensures)
+    unify-stay (s .pre) _ _ (sym (one a) ∙ eqb-true _ _ (sym (i .before .is .ensures) ∙ i .if1 .taken) ∙ two a) (n .wait-after .ensures)
     (store-frame x _ (s .args .j) (0 + 1) (long s) (low s) (b .put-chain .ensures))
     (link-chains x _ (s .args .j) 0 (long s) (low s) none (b .put-chain .ensures))
     (link-waits x _ (s .args .j) 0 (long s) (low s) none (b .put-chain .ensures))
     (store-buckets x _ (s .args .j) (0 + 1) (long s) (low s) (b .put-chain .ensures))
 
 add-join : tie.Need-add-join
-add-join c = let a = c .before .before .before .before in record { fits = omega (arith, low (begun a)) }
+add-join c = let a = c .before .before .before in record { fits = omega (arith, low (begun a)) }
 
 join-requires : tie.Need-join-requires
 join-requires c κs =
     let i = c .before in
-    let a = i .before .before .before in
+    let a = i .before .before in
     let n = a .before .before .before .before in
-    unify-due (begun a .pre) _ _ _ _ _ (omega arith) (n .before .number .ensures) (n .number2 .ensures) (one a) (two a) (i .if1 .left)
+    unify-due (begun a .pre) _ _ _ _ _ (omega arith) (n .before .number .ensures) (n .number2 .ensures) (one a) (two a) (eqb-false _ _ (sym (i .before .is .ensures) ∙ i .if1 .left))
 
 add-t12 : tie.Need-add-t12
 add-t12 c =
-    let a = c .before .before .before .before .before .before .before in
+    let a = c .before .before .before .before .before .before in
     record { fits = omega (arith, begun a .pre .state .standing .total, begun a .pre .state .standing .loaded .few) }
 
 same-length-2 : tie.Need-same-length-2
@@ -105,7 +110,7 @@ same-length-2 c = c .before .before .join .kept .0
 returns-2 : tie.Need-returns-2
 returns-2 c =
     let j = c .before .before in
-    let a = j .before .before .before .before .before in
+    let a = j .before .before .before .before in
     unify-join (begun a .pre) (j .join .ensures)
 
 pub unify-spec : {M : Type 1} → statement M
@@ -117,6 +122,7 @@ unify-spec =
     number-requires-2
     outcome-requires
     outcome-requires-2
+    is-requires
     wait-after-requires
     put-chain-requires
     same-length

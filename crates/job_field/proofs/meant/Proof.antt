@@ -1,8 +1,17 @@
--- `job_field::meant` meets its contract: each arm has its kind, at which `says` computes.
+-- `job_field::meant` meets its contract: each arm has its kind, at which `says` computes, and its tags have the body's numbers.
 -- Assumes nothing.
 use borrow.Author.Needs.{needs}
 use Rattle.job_field.proofs.meant.Statement.{statement}
 use Rattle.job_field.proofs.meant.Tie as tie
+
+of-requires : tie.Need-of-requires
+of-requires c κs = search needs
+
+of-requires-2 : tie.Need-of-requires-2
+of-requires-2 c κs = search needs
+
+of-requires-3 : tie.Need-of-requires-3
+of-requires-3 c κs = search needs
 
 enum-told : tie.Need-enum-told
 enum-told c = search needs
@@ -29,16 +38,16 @@ returns : tie.Need-returns
 returns c = rw (c .enum-told .given .1)
 
 returns-2 : tie.Need-returns-2
-returns-2 c = rw (c .enum-told2 .given .1)
+returns-2 c = rw (c .enum-told2 .given .1, c .before .before .before .before .of .ensures, c .before .before .before .of2 .ensures)
 
 returns-3 : tie.Need-returns-3
-returns-3 c = rw (c .enum-told3 .given .1)
+returns-3 c = rw (c .enum-told3 .given .1, c .before .before .before .before .of .ensures, c .before .before .before .of2 .ensures, c .before .before .of3 .ensures)
 
 returns-4 : tie.Need-returns-4
-returns-4 c = rw (c .enum-told4 .given .1)
+returns-4 c = rw (c .enum-told4 .given .1, c .before .before .before .before .of .ensures, c .before .before .before .of2 .ensures)
 
 returns-5 : tie.Need-returns-5
-returns-5 c = rw (c .enum-told5 .given .1)
+returns-5 c = rw (c .enum-told5 .given .1, c .before .before .before .before .of .ensures, c .before .before .before .of2 .ensures)
 
 returns-6 : tie.Need-returns-6
 returns-6 c = search needs
@@ -50,6 +59,9 @@ pub meant-spec : {M : Type 1} → statement M
 meant-spec =
     tie.close
     (tie.spec
+    of-requires
+    of-requires-2
+    of-requires-3
     enum-told
     enum-told-2
     enum-told-3

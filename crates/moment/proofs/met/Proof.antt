@@ -1,7 +1,8 @@
 -- `moment::met` meets its contract: the two climb by the older link first, so that each stands on its leader of one age.
 -- The measure is the sum of the two tags, since links lead down. Assumes nothing.
+use borrow.Author.Tests.{eqb-false, eqb-true, not-false, not-true}
 use borrow.Author.Needs.{needs}
-use mathlib.Core.Path.{_≡_}
+use mathlib.Core.Path.{_≡_, sym, _∙_}
 use mathlib.Core.Logic.{_≢_}
 use mathlib.Core.List.{List}
 use Prim.Native.Nat.{ℕ, _+_, _≤_, _<_}
@@ -44,37 +45,40 @@ abbrev μ-loop : tie.MeasureT-loop
 μ-loop work x₀ y₀ newest₀ x y newest = x .0 + y .0
 
 -- Both uses of a step, the measure and the invariant, read one fact.
-moved : (c : tie.After-parent Inv-loop μ-loop) → (c .parent .result .0 < c .before .before .before .before .before .before .before .before .loop .x .0) × Standing (c .before .before .before .before .before .before .before .before .before .before .args .work .now) (c .before .before .before .before .before .before .before .before .before .before .args .s .0) (c .before .before .before .before .before .before .before .before .before .before .args .t .0) (c .parent .result .0) (c .before .before .before .before .before .before .before .before .loop .y .0) (c .before .before .before .before .age .result)
+moved : (c : tie.After-parent Inv-loop μ-loop) → (c .parent .result .0 < c .before .before .before .before .before .before .before .loop .x .0) × Standing (c .before .before .before .before .before .before .before .before .before .args .work .now) (c .before .before .before .before .before .before .before .before .before .args .s .0) (c .before .before .before .before .before .before .before .before .before .args .t .0) (c .parent .result .0) (c .before .before .before .before .before .before .before .loop .y .0) (c .before .before .before .before .age .result)
 moved c =
-    let start = c .before .before .before .before .before .before .before .before .before .before in
-    let at = c .before .before .before .before .before .before .before .before .loop in
-    near (start .args .work .now) (start .pre .0) _ _ (at .x .0) (at .y .0) _ _ _ _ (at .inv) (c .before .before .before .before .before .if1 .taken)
+    let start = c .before .before .before .before .before .before .before .before .before in
+    let at = c .before .before .before .before .before .before .before .loop in
+    near (start .args .work .now) (start .pre .0) _ _ (at .x .0) (at .y .0) _ _ _ _ (at .inv) (eqb-false _ _ (sym (c .before .before .before .before .before .before .is .ensures) ∙ not-true _ (c .before .before .before .before .before .if1 .taken)))
     (c .before .before .before .before .age .ensures) (c .before .before .before .age2 .ensures) (c .parent .ensures) (c .before .before .if2 .taken) (c .before .if3 .left)
 
-moved′ : (c : tie.After-parent2 Inv-loop μ-loop) → (c .parent2 .result .0 < c .before .before .before .before .before .before .before .before .loop .y .0) × Standing (c .before .before .before .before .before .before .before .before .before .before .args .work .now) (c .before .before .before .before .before .before .before .before .before .before .args .s .0) (c .before .before .before .before .before .before .before .before .before .before .args .t .0) (c .before .before .before .before .before .before .before .before .loop .x .0) (c .parent2 .result .0) (c .before .before .before .age2 .result)
+moved′ : (c : tie.After-parent2 Inv-loop μ-loop) → (c .parent2 .result .0 < c .before .before .before .before .before .before .before .loop .y .0) × Standing (c .before .before .before .before .before .before .before .before .before .args .work .now) (c .before .before .before .before .before .before .before .before .before .args .s .0) (c .before .before .before .before .before .before .before .before .before .args .t .0) (c .before .before .before .before .before .before .before .loop .x .0) (c .parent2 .result .0) (c .before .before .before .age2 .result)
 moved′ c =
-    let start = c .before .before .before .before .before .before .before .before .before .before in
-    let at = c .before .before .before .before .before .before .before .before .loop in
-    far (start .args .work .now) (start .pre .0) _ _ (at .x .0) (at .y .0) _ _ _ _ (at .inv) (c .before .before .before .before .before .if1 .taken)
+    let start = c .before .before .before .before .before .before .before .before .before in
+    let at = c .before .before .before .before .before .before .before .loop in
+    far (start .args .work .now) (start .pre .0) _ _ (at .x .0) (at .y .0) _ _ _ _ (at .inv) (eqb-false _ _ (sym (c .before .before .before .before .before .before .is .ensures) ∙ not-true _ (c .before .before .before .before .before .if1 .taken)))
     (c .before .before .before .before .age .ensures) (c .before .before .before .age2 .ensures) (c .parent2 .ensures) (c .before .before .if2 .left) (c .before .if4 .left)
+
+is-requires : tie.Need-is-requires Inv-loop μ-loop
+is-requires c κs = search needs
 
 loop-holds : tie.Need-loop-holds Inv-loop μ-loop
 loop-holds c = record { x-tag = search needs; y-tag = search needs; climbing = climb-start _ _ (c .before .pre .0 .links) _ _ }
 
 age-requires : tie.Need-age-requires Inv-loop μ-loop
-age-requires c κs = (c .before .before .before .before .before .pre .0 .long, c .before .before .before .loop .inv .x-tag)
+age-requires c κs = (c .before .before .before .before .pre .0 .long, c .before .before .loop .inv .x-tag)
 
 age-requires-2 : tie.Need-age-requires-2 Inv-loop μ-loop
-age-requires-2 c κs = (c .before .before .before .before .before .before .pre .0 .long, c .before .before .before .before .loop .inv .y-tag)
+age-requires-2 c κs = (c .before .before .before .before .before .pre .0 .long, c .before .before .before .loop .inv .y-tag)
 
 returns : tie.Need-returns Inv-loop μ-loop
 returns c =
-    let start = c .before .before .before .before .before .before .before .before .before in
-    let at = c .before .before .before .before .before .before .before .loop in
-    never (start .args .work .now) (start .pre .0) _ _ (at .x .0) (at .y .0) _ (at .inv) (c .before .before .before .before .if1 .taken) (omega (arith, c .before .before .before .age .ensures)) (omega (arith, c .before .before .age2 .ensures))
+    let start = c .before .before .before .before .before .before .before .before in
+    let at = c .before .before .before .before .before .before .loop in
+    never (start .args .work .now) (start .pre .0) _ _ (at .x .0) (at .y .0) _ (at .inv) (eqb-false _ _ (sym (c .before .before .before .before .before .is .ensures) ∙ not-true _ (c .before .before .before .before .if1 .taken))) (omega (arith, c .before .before .before .age .ensures)) (omega (arith, c .before .before .age2 .ensures))
 
 parent-requires : tie.Need-parent-requires Inv-loop μ-loop
-parent-requires c κs = (c .before .before .before .before .before .before .before .before .before .pre .0 .long, c .before .before .before .before .before .before .before .loop .inv .x-tag)
+parent-requires c κs = (c .before .before .before .before .before .before .before .before .pre .0 .long, c .before .before .before .before .before .before .loop .inv .x-tag)
 
 loop-less : tie.Need-loop-less Inv-loop μ-loop
 loop-less c =
@@ -86,12 +90,12 @@ loop-again c = moved c .1
 
 returns-2 : tie.Need-returns-2 Inv-loop μ-loop
 returns-2 c =
-    let start = c .before .before .before .before .before .before .before .before .before in
-    let at = c .before .before .before .before .before .before .before .loop in
-    never (start .args .work .now) (start .pre .0) _ _ (at .x .0) (at .y .0) _ (at .inv) (c .before .before .before .before .if1 .taken) (omega (arith, c .before .before .before .age .ensures)) (omega (arith, c .before .before .age2 .ensures))
+    let start = c .before .before .before .before .before .before .before .before in
+    let at = c .before .before .before .before .before .before .loop in
+    never (start .args .work .now) (start .pre .0) _ _ (at .x .0) (at .y .0) _ (at .inv) (eqb-false _ _ (sym (c .before .before .before .before .before .is .ensures) ∙ not-true _ (c .before .before .before .before .if1 .taken))) (omega (arith, c .before .before .before .age .ensures)) (omega (arith, c .before .before .age2 .ensures))
 
 parent-requires-2 : tie.Need-parent-requires-2 Inv-loop μ-loop
-parent-requires-2 c κs = (c .before .before .before .before .before .before .before .before .before .pre .0 .long, c .before .before .before .before .before .before .before .loop .inv .y-tag)
+parent-requires-2 c κs = (c .before .before .before .before .before .before .before .before .pre .0 .long, c .before .before .before .before .before .before .loop .inv .y-tag)
 
 loop-less-2 : tie.Need-loop-less-2 Inv-loop μ-loop
 loop-less-2 c =
@@ -103,8 +107,8 @@ loop-again-2 c = moved′ c .1
 
 returns-3 : tie.Need-returns-3 Inv-loop μ-loop
 returns-3 c =
-    let start = c .before .before .before .before .before in
-    let end = climb-end _ _ (start .pre .0 .links) (c .before .before .before .loop .inv .climbing) (start .pre .1 .2) (c .if1 .left) in
+    let start = c .before .before .before .before in
+    let end = climb-end _ _ (start .pre .0 .links) (c .before .before .loop .inv .climbing) (start .pre .1 .2) (eqb-true _ _ (sym (c .before .is .ensures) ∙ not-false _ (c .if1 .left))) in
     record { most = omega (arith, end .0); joined = λ _. end .1; apart = end .2 }
 
 pub met-spec : {M : Type 1} → statement M
@@ -114,6 +118,7 @@ met-spec =
     Inv-loop
     μ-loop
     loop-holds
+    is-requires
     age-requires
     age-requires-2
     returns

@@ -1,5 +1,7 @@
 -- `reason_follow::sides` meets its contract: the end on the side of s is the one that has its leader by older joins.
 -- Assumes nothing.
+use borrow.Author.Tests.{eqb-false, eqb-true}
+use borrow.Author.Needs.{needs}
 use mathlib.Core.Path.{_≡_, sym, _∙_, ap}
 use mathlib.Core.Logic.{_≢_}
 use mathlib.Core.List.{List}
@@ -19,6 +21,9 @@ module _ (w : List ℕ) (s t b near far l m : ℕ) (X : Crossed w s t b) (e : En
   back : l ≢ m → Sided w s t b far near
   back i = rw (e .near-is, e .far-is) (sided-back X (λ h. i (p ∙ h ∙ ap (leaderAt w b) (sym (e .near-is)) ∙ sym q)))
 
+is-requires : tie.Need-is-requires
+is-requires c κs = search needs
+
 ends-requires : tie.Need-ends-requires
 ends-requires c κs = c .before .pre .holds
 
@@ -29,10 +34,10 @@ leader-requires-2 : tie.Need-leader-requires-2
 leader-requires-2 c κs = (past-forest (c .before .before .before .before .before .pre .holds .past), (omega (arith, holds-ranged (c .before .before .before .before .before .pre .holds) .age), omega (arith, holds-ranged (c .before .before .before .before .before .pre .holds) .u-tag, c .before .before .before .ends .ensures .near-is)))
 
 returns : tie.Need-returns
-returns c = over _ _ _ _ _ _ _ _ (c .before .before .before .before .before .before .before .before .before .pre) (c .before .before .before .before .before .before .before .ends .ensures) (c .before .before .before .before .leader .ensures) (c .before .before .before .leader2 .ensures) (c .if1 .taken)
+returns c = over _ _ _ _ _ _ _ _ (c .before .before .before .before .before .before .before .before .pre) (c .before .before .before .before .before .before .ends .ensures) (c .before .before .before .leader .ensures) (c .before .before .leader2 .ensures) (eqb-true _ _ (sym (c .before .is .ensures) ∙ c .if1 .taken))
 
 returns-2 : tie.Need-returns-2
-returns-2 c = back _ _ _ _ _ _ _ _ (c .before .before .before .before .before .before .before .before .before .pre) (c .before .before .before .before .before .before .before .ends .ensures) (c .before .before .before .before .leader .ensures) (c .before .before .before .leader2 .ensures) (c .if1 .left)
+returns-2 c = back _ _ _ _ _ _ _ _ (c .before .before .before .before .before .before .before .before .pre) (c .before .before .before .before .before .before .ends .ensures) (c .before .before .before .leader .ensures) (c .before .before .leader2 .ensures) (eqb-false _ _ (sym (c .before .is .ensures) ∙ c .if1 .left))
 
 pub sides-spec : {M : Type 1} → statement M
-sides-spec = tie.close (tie.spec ends-requires leader-requires leader-requires-2 returns returns-2)
+sides-spec = tie.close (tie.spec ends-requires leader-requires leader-requires-2 is-requires returns returns-2)

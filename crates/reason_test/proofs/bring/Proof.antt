@@ -16,6 +16,9 @@ Inv-loop work₀ count p r j₀ work j = (p ≤ j) × (j ≤ count) × Arranged 
 abbrev μ-loop : tie.MeasureT-loop
 μ-loop work₀ count p r j₀ work j = count - j
 
+is-requires : tie.Need-is-requires Inv-loop μ-loop
+is-requires c κs = search needs
+
 loop-holds : tie.Need-loop-holds Inv-loop μ-loop
 loop-holds c = (omega arith, c .before .pre .2, arranged-none (c .before .args .count) (now (c .before .args .work)))
 
@@ -24,20 +27,20 @@ listed-requires c κs = let start = c .before .before .before .before in (omega 
 
 swap-requires : tie.Need-swap-requires Inv-loop μ-loop
 swap-requires c κs =
-    let start = c .before .before .before .before .before .before .before .before .before in
-    let at = c .before .before .before .before .before .before .before .loop in
-    (omega (arith, start .pre .0, at .inv .2 .kept .size), omega (arith, start .pre .1, at .inv .0, c .before .before .before .before .before .before .loop-test .taken), omega (arith, start .pre .1, c .before .before .before .before .before .before .loop-test .taken))
+    let start = c .before .before .before .before .before .before .before .before in
+    let at = c .before .before .before .before .before .before .loop in
+    (omega (arith, start .pre .0, at .inv .2 .kept .size), omega (arith, start .pre .1, at .inv .0, c .before .before .before .before .before .loop-test .taken), omega (arith, start .pre .1, c .before .before .before .before .before .loop-test .taken))
 
 add-result : tie.Need-add-result Inv-loop μ-loop
 add-result c = search needs
 
 same-length : tie.Need-same-length Inv-loop μ-loop
-same-length c = c .before .before .swap .ensures .kept .size ∙ c .before .before .before .before .before .before .before .before .before .before .loop .inv .2 .kept .size
+same-length c = c .before .before .swap .ensures .kept .size ∙ c .before .before .before .before .before .before .before .before .before .loop .inv .2 .kept .size
 
 returns : tie.Need-returns Inv-loop μ-loop
 returns c =
-    let at = c .before .before .before .before .before .before .before .before .before .before .loop in
-    let l = c .before .before .before .before .before .before .before .before .before .loop-test .taken in
+    let at = c .before .before .before .before .before .before .before .before .before .loop in
+    let l = c .before .before .before .before .before .before .before .before .loop-test .taken in
     record { within = omega (arith, at .inv .0); arranged = arranged-trans (at .inv .2) (arranged-swap (omega (arith, at .inv .0)) l (c .before .before .swap .ensures)) }
 
 add-j : tie.Need-add-j Inv-loop μ-loop
@@ -47,7 +50,7 @@ loop-less : tie.Need-loop-less Inv-loop μ-loop
 loop-less c = search needs
 
 loop-again : tie.Need-loop-again Inv-loop μ-loop
-loop-again c = let at = c .before .before .before .before .before .before .loop in (omega (arith, at .inv .0), omega (arith, c .before .before .before .before .before .loop-test .taken), at .inv .2)
+loop-again c = let at = c .before .before .before .before .before .loop in (omega (arith, at .inv .0), omega (arith, c .before .before .before .before .loop-test .taken), at .inv .2)
 
 same-length-2 : tie.Need-same-length-2 Inv-loop μ-loop
 same-length-2 c = c .before .loop .inv .2 .kept .size
@@ -63,6 +66,7 @@ bring-spec =
     μ-loop
     loop-holds
     listed-requires
+    is-requires
     swap-requires
     add-result
     same-length

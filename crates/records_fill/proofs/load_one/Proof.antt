@@ -8,11 +8,11 @@ use mathlib.Core.Path.{_∙_}
 use denote.Ref.{now}
 use Rattle.records_fill.proofs.Loading.{carry-equation, carry-application}
 
-cast-t8 : tie.Need-cast-t8
-cast-t8 c = search needs
+add-record-at : tie.Need-add-record-at
+add-record-at c = search needs
 
-add-t9 : tie.Need-add-t9
-add-t9 c = search needs
+record-at-requires : tie.Need-record-at-requires
+record-at-requires c κs = search needs
 
 put-equation-requires : tie.Need-put-equation-requires
 put-equation-requires c κs = search needs
@@ -24,20 +24,20 @@ same-length : tie.Need-same-length
 same-length c = search needs
 
 returns : tie.Need-returns
-returns c = let s = c .before .before .before .before .before .before .before .before .before .before .args in c .before .before .put-equation .ensures ∙ carry-equation (now (s .work)) (s .i) (s .p) (c .before .before .before .before .if1 .taken)
+returns c = let s = c .before .before .before .before .before .before .before .before .before .before .before .args in rw (c .before .before .before .before .before .before .before .before .before .record-at .ensures) at (c .before .before .put-equation .ensures) ∙ carry-equation (now (s .work)) (s .i) (s .p) (c .before .before .before .before .if1 .taken)
 
 same-length-2 : tie.Need-same-length-2
 same-length-2 c = search needs
 
 returns-2 : tie.Need-returns-2
-returns-2 c = let s = c .before .before .before .before .before .before .before .before .before .before .args in c .before .before .put-application .ensures ∙ carry-application (now (s .work)) (s .i) (s .p) (c .before .before .before .before .if1 .left)
+returns-2 c = let s = c .before .before .before .before .before .before .before .before .before .before .before .args in rw (c .before .before .before .before .before .before .before .before .before .record-at .ensures) at (c .before .before .put-application .ensures) ∙ carry-application (now (s .work)) (s .i) (s .p) (c .before .before .before .before .if1 .left)
 
 pub load-one-spec : {M : Type 1} → statement M
 load-one-spec =
     tie.close
     (tie.spec
-    cast-t8
-    add-t9
+    add-record-at
+    record-at-requires
     put-equation-requires
     put-application-requires
     same-length

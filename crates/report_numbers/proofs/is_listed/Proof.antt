@@ -22,16 +22,19 @@ add-number-in c = search needs
 number-in-requires : tie.Need-number-in-requires
 number-in-requires c κs = search needs
 
+number-requires : tie.Need-number-requires
+number-requires c κs = search needs
+
 returns : tie.Need-returns
 returns c =
     let a = c .before .before .before .before .before .args in
     let r = now (a .report) in
     let n : ℕ = listOf (now (a .work)) (a .i) in
-    let e : _ ≡ n = c .before .before .listed .ensures in
+    let e : _ ≡ n = c .number .ensures ∙ c .before .before .listed .ensures in
     is-so (c .before .number-in .result) _
     (λ q. rw (q ∙ e) at (c .before .number-in .ensures))
     (λ h. number-held r (a .at + 2 * a .i) (c .before .number-in .result) n (c .before .number-in .ensures) h ∙ sym e)
 
 pub is-listed-spec : {M : Type 1} → statement M
 is-listed-spec =
-    tie.close (tie.spec listed-requires mul-number-in add-number-in number-in-requires returns)
+    tie.close (tie.spec listed-requires mul-number-in add-number-in number-in-requires number-requires returns)

@@ -23,8 +23,13 @@ put-number-requires c κs = search needs
 same-length : tie.Need-same-length
 same-length c = search needs
 
+number-requires : tie.Need-number-requires
+number-requires c κs = search needs
+
 returns : tie.Need-returns
-returns c = let a = c .before .before .before .before .before .before .before .args in c .before .before .put-number .ensures ∙ ap (λ (n : ℕ). laid (a .at + 2 * a .i) (two n) (now (a .room))) (c .before .before .before .before .listed .ensures)
+returns c =
+    let a = c .before .before .before .before .before .before .before .before .args in
+    c .before .before .put-number .ensures ∙ ap (λ (n : ℕ). laid (a .at + 2 * a .i) (two n) (now (a .room))) (c .before .before .before .number .ensures ∙ c .before .before .before .before .before .listed .ensures)
 
 pub put-listed-spec : {M : Type 1} → statement M
 put-listed-spec =
@@ -33,6 +38,7 @@ put-listed-spec =
     listed-requires
     mul-put-number
     add-put-number
+    number-requires
     put-number-requires
     same-length
     returns)

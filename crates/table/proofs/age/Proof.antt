@@ -9,23 +9,19 @@ use denote.Ref.{now}
 use Rattle.table.proofs.Frame.{seen-at}
 use Rattle.table.proofs.age.Statement.{statement}
 use Rattle.table.proofs.age.Tie as tie
-use Rattle.table.proofs.age.Reads as reads
-use Rattle.table.proofs.age.Lts as lts
-use Rattle.table.proofs.cell.Reads as cell-reads
-use Rattle.table.proofs.wide.Reads as wide-reads
 use Rattle.table.specs.Places.{AGE}
 
-wide-requires : tie.Need-wide-requires
-wide-requires c κs = search needs
+place-requires : tie.Need-place-requires
+place-requires c κs = search needs
 
 cell-requires : tie.Need-cell-requires
 cell-requires c κs = search needs
 
-wide-requires-2 : tie.Need-wide-requires-2
-wide-requires-2 c κs = search needs
+wide-requires : tie.Need-wide-requires
+wide-requires c κs = search needs
 
 returns : tie.Need-returns
-returns c = c .wide2 .ensures ∙ c .before .cell .ensures ∙ ap (λ (k : ℕ). getD (now (c .before .before .before .before .args .work)) (AGE .at + k) 0) (c .before .before .wide .ensures) ∙ sym (seen-at AGE (now (c .before .before .before .before .args .work)) (c .before .before .before .before .args .x .0) (omega (arith, c .before .before .before .before .pre)))
+returns c = c .wide .ensures ∙ c .before .cell .ensures ∙ ap (λ (k : ℕ). getD (now (c .before .before .before .before .args .work)) (AGE .at + k) 0) (c .before .before .place .ensures) ∙ sym (seen-at AGE (now (c .before .before .before .before .args .work)) (c .before .before .before .before .args .x .0) (omega (arith, c .before .before .before .before .pre)))
 
 pub age-spec : {M : Type 1} → statement M
-age-spec = tie.close (tie.spec wide-requires cell-requires wide-requires-2 returns)
+age-spec = tie.close (tie.spec place-requires cell-requires wide-requires returns)

@@ -9,30 +9,25 @@ use Rattle.meaning.specs.Limits.{mostTags}
 use Rattle.table.proofs.Frame.{seen-at, uses-most}
 use Rattle.table.proofs.last_use.Statement.{statement}
 use Rattle.table.proofs.last_use.Tie as tie
-use Rattle.table.proofs.last_use.Reads as reads
-use Rattle.table.proofs.last_use.Lts as lts
-use Rattle.table.proofs.cell.Reads as cell-reads
-use Rattle.table.proofs.uses.Reads as uses-reads
-use Rattle.table.proofs.wide.Reads as wide-reads
 use Rattle.table.specs.Places.{plain, useAt}
 
-wide-requires : tie.Need-wide-requires
-wide-requires c κs = search needs
+place-requires : tie.Need-place-requires
+place-requires c κs = search needs
 
 uses-requires : tie.Need-uses-requires
 uses-requires c κs = search needs
 
 cell-requires : tie.Need-cell-requires
-cell-requires c κs = let s = c .before .before .before in (s .pre .0, omega (arith, s .pre .1, c .before .wide .ensures, c .uses .ensures, uses-most (s .args .second)))
+cell-requires c κs = let s = c .before .before .before in (s .pre .0, omega (arith, s .pre .1, c .before .place .ensures, c .uses .ensures, uses-most (s .args .second)))
 
-wide-requires-2 : tie.Need-wide-requires-2
-wide-requires-2 c κs = search needs
+wide-requires : tie.Need-wide-requires
+wide-requires c κs = search needs
 
 returns : tie.Need-returns
 returns c =
     let s = c .before .before .before .before .before in
-    c .wide2 .ensures ∙ c .before .cell .ensures ∙ rw (c .before .before .uses .ensures, c .before .before .before .wide .ensures) (sym (seen-at (plain (useAt (s .args .second)) mostTags) (now (s .args .work)) (s .args .x .0) (omega (arith, s .pre))))
+    c .wide .ensures ∙ c .before .cell .ensures ∙ rw (c .before .before .uses .ensures, c .before .before .before .place .ensures) (sym (seen-at (plain (useAt (s .args .second)) mostTags) (now (s .args .work)) (s .args .x .0) (omega (arith, s .pre))))
 
 pub last-use-spec : {M : Type 1} → statement M
 last-use-spec =
-    tie.close (tie.spec wide-requires uses-requires cell-requires wide-requires-2 returns)
+    tie.close (tie.spec place-requires uses-requires cell-requires wide-requires returns)

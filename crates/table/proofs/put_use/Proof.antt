@@ -8,16 +8,10 @@ use lib.ListN.{length, length-set}
 use Rattle.table.proofs.Frame.{uses-most, mores-most}
 use Rattle.table.proofs.put_use.Statement.{statement}
 use Rattle.table.proofs.put_use.Tie as tie
-use Rattle.table.proofs.put_use.Reads as reads
-use Rattle.table.proofs.put_use.Lts as lts
-use Rattle.table.proofs.store.Reads as store-reads
-use Rattle.table.proofs.uses.Reads as uses-reads
-use Rattle.table.proofs.mores.Reads as mores-reads
-use Rattle.table.proofs.wide.Reads as wide-reads
 use Rattle.table.specs.Places.{Large}
 
-wide-requires : tie.Need-wide-requires
-wide-requires c κs = search needs
+place-requires : tie.Need-place-requires
+place-requires c κs = search needs
 
 mores-requires : tie.Need-mores-requires
 mores-requires c κs = search needs
@@ -45,7 +39,7 @@ store-requires-2 : tie.Need-store-requires-2
 store-requires-2 c κs =
     let b = c .before .before .before .before in
     let s = b .before .before .before .before .before in
-    (long b, omega (arith, s .pre .1, c .before .uses .ensures, b .before .before .before .wide .ensures, uses-most (s .args .second)))
+    (long b, omega (arith, s .pre .1, c .before .uses .ensures, b .before .before .before .place .ensures, uses-most (s .args .second)))
 
 same-length : tie.Need-same-length
 same-length c = search needs
@@ -56,13 +50,13 @@ returns c =
     let u = t .before .before in
     let b = u .before .before .before in
     let m = b .before .before in
-    t .store2 .ensures ∙ rw (u .uses .ensures, m .before .wide .ensures, b .store .ensures, m .mores .ensures) refl
+    t .store2 .ensures ∙ rw (u .uses .ensures, m .before .place .ensures, b .store .ensures, m .mores .ensures) refl
 
 pub put-use-spec : {M : Type 1} → statement M
 put-use-spec =
     tie.close
     (tie.spec
-    wide-requires
+    place-requires
     mores-requires
     cast-store
     store-requires

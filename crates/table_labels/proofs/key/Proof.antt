@@ -20,33 +20,33 @@ label-requires c κs = let p = c .before .before .before .pre in (p .long, rw (c
 label-requires-2 : tie.Need-label-requires-2
 label-requires-2 c κs = let p = c .before .before .before .before .pre in (p .long, rw (c .before .right .ensures) (p .right))
 
-wide-requires : tie.Need-wide-requires
-wide-requires c κs = tt
+place-requires : tie.Need-place-requires
+place-requires c κs = tt
 
 mul-result : tie.Need-mul-result
-mul-result c = record { fits = omega (arith, c .wide .ensures) }
+mul-result c = record { fits = omega (arith, c .place .ensures) }
 
-wide-requires-2 : tie.Need-wide-requires-2
-wide-requires-2 c κs = tt
+place-requires-2 : tie.Need-place-requires-2
+place-requires-2 c κs = tt
 
 add-result : tie.Need-add-result
-add-result c = record { fits = omega (arith, c .before .wide .ensures, c .wide2 .ensures) }
+add-result c = record { fits = omega (arith, c .before .place .ensures, c .place2 .ensures) }
 
 -- Where the function began, and the two labels.
-abbrev at-start : tie.After-wide2 → tie.Start
+abbrev at-start : tie.After-place2 → tie.Start
 at-start c = c .before .before .before .before .before .before .before
 
-abbrev left-label : tie.After-wide2 → ℕ
+abbrev left-label : tie.After-place2 → ℕ
 left-label c = labelOf (now (at-start c .args .work)) (leftOf (now (at-start c .args .work)) (at-start c .args .r .0))
 
-x-is : (c : tie.After-wide2) → c .before .wide .result ≡ left-label c
-x-is c = c .before .wide .ensures ∙ c .before .before .before .label .ensures ∙ ap (labelOf (now (at-start c .args .work))) (c .before .before .before .before .before .left .ensures)
+x-is : (c : tie.After-place2) → c .before .place .result ≡ left-label c
+x-is c = c .before .place .ensures ∙ c .before .before .before .label .ensures ∙ ap (labelOf (now (at-start c .args .work))) (c .before .before .before .before .before .left .ensures)
 
-y-is : (c : tie.After-wide2) → c .wide2 .result ≡ labelOf (now (at-start c .args .work)) (rightOf (now (at-start c .args .work)) (at-start c .args .r .0))
-y-is c = c .wide2 .ensures ∙ c .before .before .label2 .ensures ∙ ap (labelOf (now (at-start c .args .work))) (c .before .before .before .before .right .ensures)
+y-is : (c : tie.After-place2) → c .place2 .result ≡ labelOf (now (at-start c .args .work)) (rightOf (now (at-start c .args .work)) (at-start c .args .r .0))
+y-is c = c .place2 .ensures ∙ c .before .before .label2 .ensures ∙ ap (labelOf (now (at-start c .args .work))) (c .before .before .before .before .right .ensures)
 
 returns : tie.Need-returns
-returns c = ap (λ (x : ℕ). x * 65536 + c .wide2 .result) (x-is c) ∙ ap (λ (y : ℕ). left-label c * 65536 + y) (y-is c)
+returns c = ap (λ (x : ℕ). x * 65536 + c .place2 .result) (x-is c) ∙ ap (λ (y : ℕ). left-label c * 65536 + y) (y-is c)
 
 pub key-spec : {M : Type 1} → statement M
 key-spec =
@@ -56,8 +56,8 @@ key-spec =
     right-requires
     label-requires
     label-requires-2
-    wide-requires
+    place-requires
     mul-result
-    wide-requires-2
+    place-requires-2
     add-result
     returns)

@@ -10,20 +10,20 @@ use Rattle.table_labels.proofs.merge.Statement.{statement}
 use Rattle.table_labels.proofs.merge.Tie as tie
 use Rattle.table_labels.proofs.Views.{relabelled}
 
-add-relabel : tie.Need-add-relabel
-add-relabel c = record { fits = omega (arith, c .before .pre .1) }
+add-rename : tie.Need-add-rename
+add-rename c = record { fits = omega (arith, c .before .pre .1) }
 
-sub-relabel : tie.Need-sub-relabel
-sub-relabel c = search needs
+sub-rename : tie.Need-sub-rename
+sub-rename c = search needs
 
-part-relabel-start : tie.Need-part-relabel-start
-part-relabel-start c = search needs
+part-rename-start : tie.Need-part-rename-start
+part-rename-start c = search needs
 
-part-relabel-end : tie.Need-part-relabel-end
-part-relabel-end c = search needs
+part-rename-end : tie.Need-part-rename-end
+part-rename-end c = search needs
 
-relabel-requires : tie.Need-relabel-requires
-relabel-requires c κs = search needs
+rename-requires : tie.Need-rename-requires
+rename-requires c κs = search needs
 
 same-length : tie.Need-same-length
 same-length c = search needs
@@ -32,9 +32,9 @@ returns : tie.Need-returns
 returns c =
     let s = c .before .before .before .before .before in
     let z : (LABEL .at) + s .args .size - LABEL .at ≡ s .args .size = omega arith in
-    relabelled (LABEL .at + s .args .size - LABEL .at) (now (s .args .work)) _ (c .before .before .relabel .last .0) (s .args .lo .0) (s .args .hi .0) (s .pre .0) (rw z (s .pre .1)) (rw z (s .pre .2)) (rw z (s .pre .3)) refl (c .before .before .relabel .ensures)
+    relabelled (LABEL .at + s .args .size - LABEL .at) (now (s .args .work)) _ (c .before .before .rename .last .0) (s .args .lo .0) (s .args .hi .0) (s .pre .0) (rw z (s .pre .1)) (rw z (s .pre .2)) (rw z (s .pre .3)) refl (c .before .before .rename .ensures)
 
 pub merge-spec : {M : Type 1} → statement M
 merge-spec =
     tie.close
-    (tie.spec add-relabel sub-relabel part-relabel-start part-relabel-end relabel-requires same-length returns)
+    (tie.spec add-rename sub-rename part-rename-start part-rename-end rename-requires same-length returns)
