@@ -45,7 +45,8 @@ enum haltzurme_limit {
     HALTZURME_MOST_QUESTIONS = 1000,
     HALTZURME_LONGEST_JOB = 43008,      /* bytes */
     HALTZURME_LONGEST_REPORT = 3999007, /* bytes that are enough room for every job */
-    HALTZURME_WORK = 32768              /* numbers of the work table */
+    HALTZURME_WORK = 32768,             /* numbers of the work table */
+    HALTZURME_STACK = 131072            /* bytes of stack that a call may need, with a margin; bench/stack measures it */
 };
 
 /* The kinds of a field, of a job and of a report. */

@@ -3,3 +3,4 @@ pub mod Fits
 pub mod Laid
 pub mod Fault
 pub mod Known
+pub mod Cases

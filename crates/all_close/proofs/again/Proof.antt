@@ -49,7 +49,7 @@ is-requires c κs = search needs
 
 returns-2 : tie.Need-returns-2
 returns-2 c =
-    let b = c .before .before .before in
+    let b = c .before in
     let a = b .before .before in
     let e = a .before .before in
     let s = e .before .before in
