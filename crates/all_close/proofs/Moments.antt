@@ -5,7 +5,7 @@ use Prim.Native.Nat.{ℕ, zero, suc, _+_, _-_, _*_, _≤_, _<_}
 use native.Mathlib.Omega.{arith}
 use native.Mathlib.Numerals.{add-one}
 use native.Mathlib.Decide.{ℕ-discrete, decLt}
-use mathlib.Core.Path.{_≡_, refl, sym, ap, _∙_, fun-ext}
+use mathlib.Core.Path.{_≡_, refl, sym, subst, ap, _∙_, fun-ext}
 use mathlib.Core.Logic.{_↔_, _⊎_, inl, inr}
 use mathlib.Core.Bool.{Bool, true, false}
 use mathlib.Core.List.{List, [], _∷_, _++_, List·Memᴰ, List·Memᴰ·not-nil, Memᴰ·append-left}
@@ -41,7 +41,7 @@ use Rattle.all_settle.specs.State.{Open}
 use Rattle.table.specs.Past.{ageAfter, leaderAfter}
 use Rattle.table.specs.Places.{AGE, BUCKETS, CHAIN, LABEL, Large, PARENT, SHARES, USES, allOf, behindColumns, bucketCount, forestPart, indexPart, plain}
 use Rattle.all_close.specs.Closing.{Closing}
-use Rattle.all_close.specs.State.{front, Between, Again, Admitted, Begun, Unlinked}
+use Rattle.all_close.specs.State.{front, Between, Again, Admitted, Begun, Wiped, Unlinked}
 
 -- Where none waits, the labels are closed under the records that are in.
 open-closed : {t : Front} {w : List ℕ} {n : ℕ} → Open t w n 0 → Closed (Only (recordsIn (t .len) w) (upTo (t .places))) (labelOf w)
@@ -132,6 +132,27 @@ standing-next {N} {len} {i} {w} {n} b low = record {
     order = g .order;
     moments = λ k l. moments-now b k (omega arith);
   };
+}
+
+-- All behind the columns is lent, and comes back as noughts.
+pub wiped : (w w′ v : List ℕ) → Large w → length v ≡ length (take 20765 (drop (PARENT .at) w)) → w′ ≡ take (PARENT .at) w ++ (v ++ drop 20765 (drop (PARENT .at) w)) → Fills v 0 → Wiped w w′
+wiped w w′ v long s e h = record { frame = lent-within (PARENT .at) 20765 w w′ v (omega arith) s e; zero = zero-at }
+  where
+    zero-at : (i : ℕ) → PARENT .at ≤ i → i < namedNumbers → getD w′ i 0 ≡ 0
+    zero-at i l m =
+        let z : (PARENT .at) + (i - PARENT .at) ≡ i = omega arith in
+        subst (λ (k : ℕ). getD w′ k 0 ≡ 0) z (lent-at (PARENT .at) 20765 w w′ v (omega arith) s e (λ i. 0) h (i - PARENT .at) (omega arith))
+
+-- What is begun with then is what is begun with of the table that was lent.
+pub begun-after : {w v d : List ℕ} → Within behindColumns w v → Begun v d → Begun w d
+begun-after f b = record {
+  frame = within-trans f (b .frame);
+  ages = b .ages;
+  tops = b .tops;
+  labels = b .labels;
+  chains = b .chains;
+  buckets = b .buckets;
+  uses = b .uses;
 }
 
 -- The ages are lent, and come back filled.

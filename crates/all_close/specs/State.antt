@@ -5,10 +5,11 @@ use mathlib.Core.Path.{_≡_}
 use mathlib.Core.Logic.{_↔_}
 use mathlib.Core.Bool.{Bool, true, false}
 use mathlib.Core.List.{List}
+use lib.ListN.{getD}
 use Rattle.meaning.specs.Totals.{Idle}
-use Rattle.meaning.specs.Limits.{mostTags}
+use Rattle.meaning.specs.Limits.{mostTags, namedNumbers}
 use Rattle.table.specs.Map.{leftOf, rightOf, parentOf, ageOf, labelOf, useOf, chainOf, bucketOf, recordsIn, Within}
-use Rattle.table.specs.Places.{AGE, allOf, behindColumns}
+use Rattle.table.specs.Places.{AGE, PARENT, allOf, behindColumns}
 use Rattle.all_index.specs.declared.Front.{Front}
 use Rattle.all_index.specs.State.{eqnAt, keyAt, resAt, foundIn}
 use Rattle.all_settle.specs.State.{Open}
@@ -68,6 +69,11 @@ pub record Begun (w w′ : List ℕ) : Type 0 where
   pub chains : (r : ℕ) → chainOf w′ r ≡ 0
   pub buckets : (b : ℕ) → bucketOf w′ b ≡ 0
   pub uses : (second : Bool) (x : ℕ) → useOf second w′ x ≡ 0
+
+-- Nothing that was lent is left behind the columns.
+pub record Wiped (w w′ : List ℕ) : Type 0 where
+  pub frame : Within behindColumns w w′
+  pub zero : (i : ℕ) → PARENT .at ≤ i → i < namedNumbers → getD w′ i 0 ≡ 0
 
 -- No tag is linked.
 pub record Unlinked (w w′ : List ℕ) : Type 0 where

@@ -13,7 +13,7 @@ ghost use Rattle.table.specs.Map.{Loaded};
 ghost use Rattle.table.specs.Places.{Large};
 ghost use Rattle.all_index.specs.State.{eqnAt};
 ghost use Rattle.all_close.specs.Closing.{Closing};
-ghost use Rattle.all_close.specs.State.{Between, Coming, Looked, Again, Entered, Equated, Admitted, Unlinked, Begun};
+ghost use Rattle.all_close.specs.State.{Between, Coming, Looked, Again, Entered, Equated, Admitted, Wiped, Unlinked, Begun};
 use all_index::Front;
 use all_settle::Progress;
 use meaning::NO_RECORD;
@@ -141,11 +141,21 @@ fn unlink(work: &mut [u16])
     table_labels::fill(&mut work[table::AGE..table::FIRST], table::LEADS);
 }
 
-// The work begins: no tag linked, each its own label, no chains and no uses.
+// Behind the records' columns nothing is left of what was lent.
+fn wipe(work: &mut [u16])
+    requires { ⌜ Large (now work) ⌝ }
+    ensures { λ _. ⌜ Wiped (now (work .entry)) (now (work .exit)) ⌝ }
+{
+    table_labels::fill(&mut work[table::PARENT..table::NAMED], 0);
+}
+
+// The work begins: behind the columns all is cleared before anything else is written there; then no tag is linked, each is its own label, and there
+// are no chains and no uses.
 fn begin(work: &mut [u16])
     requires { ⌜ Large (now work) ⌝ }
     ensures { λ _. ⌜ Begun (now (work .entry)) (now (work .exit)) ⌝ }
 {
+    wipe(work);
     unlink(work);
     table_labels::count_up(&mut work[table::PARENT..table::AGE]);
     table_labels::fresh(work);

@@ -63,7 +63,7 @@ pub record Above (w : List ℕ) (b j q : ℕ) : Type 0 where
   pub over : 0 < q → j < q - 1
   pub under : 0 < q → link (chainOf w) (q - 1) ≤ suc j
 
--- What stands there; and what it is to be led on to.
+-- The link that leads on from there: that of the bucket where q is 0, else that of place q - 1. And what it is that this link alone was set to p.
 abbrev pub behindIn : List ℕ → ℕ → ℕ → ℕ
 behindIn w b q = cond (eqb q 0) (bucketOf w b) (link (chainOf w) (q - 1))
 

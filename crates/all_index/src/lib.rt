@@ -140,7 +140,7 @@ fn touch_tag(work: &mut [u16], front: Front, x: Tag, first: usize) -> usize
     touch_uses(work, front, true, x, to)
 }
 
-// The same, where the tag is labelled hi.
+// All applications wait that have the tag x for an argument, if x is labelled hi.
 fn touch_labelled(work: &mut [u16], front: Front, hi: Tag, x: Tag, first: usize) -> usize
     requires { ⌜ Indexed front (now work) first × (x .0 < mostTags) ⌝ }
     ensures { λ r. ⌜ Touched front (now (work .entry)) (now (work .exit)) r × ((j : ℕ) → j < front .places → eqnAt (now (work .entry)) j ≡ false → labelOf (now (work .entry)) (x .0) ≡ hi .0 → (leftOf (now (work .entry)) (suc j) ≡ x .0) ⊎ (rightOf (now (work .entry)) (suc j) ≡ x .0) → chainOf (now (work .exit)) j ≡ 0) ⌝ }

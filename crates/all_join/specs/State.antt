@@ -43,7 +43,7 @@ pub record Marked (N : ℕ) (l f : ℕ → ℕ) : Type 0 where
   pub flat : (x : ℕ) → l (l x) ≡ l x
   pub low : (x : ℕ) → x < N → l x < N
 
--- Where a tag's link would stand that leads its class, the table holds one that no tag of the class is above.
+-- A tag that leads its class has no link. In the place of the link the table holds the largest tag of the class.
 pub record Topped (N : ℕ) (f p : ℕ → ℕ) : Type 0 where
   pub above : (x : ℕ) → x < N → x ≤ p (f x)
   pub below : (x : ℕ) → x < N → f x ≡ x → p x < N
@@ -84,7 +84,7 @@ pub record Named (t : Front) (w : List ℕ) (n : ℕ) (s : Side) : Type 0 where
   pub low : s .label .0 < t .size
   pub leader : s .leader .0 ≡ leadOf w n (s .label .0)
 
--- The join of two records was kept, that joined the classes led by x and y. What leads from then on is the smaller; where its link would stand is the largest tag of both, and its age is none.
+-- The join of the classes led by x and y stands in the table. The smaller of the two leads from then on: in the place of its link stands the largest tag of both classes, and in that of its age a number that is no age.
 pub record Kept (w w′ : List ℕ) (n k k′ m x y : ℕ) : Type 0 where
   pub lo : ℕ
   pub hi : ℕ

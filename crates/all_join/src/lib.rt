@@ -2,8 +2,8 @@
 // of joins, the forest of links), table (where things stand), table_labels (labels, keys) and all_index (filed applications, and those that wait).
 //
 // A class has a label, which is one of its tags, and a leader, the smallest. A join relabels the class of fewer tags, as source document 002 does, and keeps that the larger leader went under the smaller.
-// Where the link of a leader will stand once it goes, the table holds the largest tag of its class, and where its age will, LEADS and as much as the class has other tags. Before a join, the applications
-// that it concerns are taken out of their chains and wait.
+// A leader has no link. In its place of PARENT the table holds the largest tag of its class, and in its place of AGE the number LEADS, with one more for each other tag of the class. Before a join, the
+// applications that it concerns are taken out of their chains and wait.
 ghost use mathlib.Core.Path.{_≡_};
 ghost use mathlib.Core.Logic.{_≢_, _⊎_};
 ghost use Prim.Native.Nat.{ℕ, _≤_, _<_};

@@ -34,7 +34,7 @@ pub record Enough (job : List ℕ) (c w : ℕ) : Type 0 where
   pub places : namedPlaces ≤ c
   pub numbers : namedNumbers ≤ w
 
--- The same with 1, a job longer than the longest, and 2, either table shorter than named, before it.
+-- What is known with the lengths seen first: 1, a job longer than the longest, and 2, either table shorter than named, come before the reading.
 pub data Looked (job : List ℕ) (places numbers : ℕ) : Sight → Type 0 where
   long : longest job < length job → Looked job places numbers (declined 1)
   narrow : length job ≤ longest job → (places < namedPlaces) ⊎ (numbers < namedNumbers) → Looked job places numbers (declined 2)

@@ -112,7 +112,7 @@ fn clear(work: &mut [u16])
     fill(&mut work[0..NAMED], 0);
 }
 
-// They do where the lengths were right; otherwise nothing changes.
+// Where the lengths were right the named places become zero; otherwise nothing changes.
 pub fn give_back(work: &mut [u16], lent: bool)
     requires { ⌜ (lent ≡ true → Large (now work)) ⌝ }
     ensures { λ _. ⌜ Returned lent (now (work .entry)) (now (work .exit)) ⌝ }

@@ -17,7 +17,7 @@ abbrev pub summary : Reading → Summary
 summary (refused n p) = refusal n p
 summary (accepted H is) = acceptance H (length (recordsOf is)) (questionsOf is) (neededRoom H start is)
 
--- The same of what the code answers, by document 01's numbers.
+-- The summary of what the code answers, by document 01's numbers.
 abbrev pub told : Answer → Summary
 told (Refused f p) = refusal (numberOf f) p
 told (Accepted N R Q room) = acceptance (record { size = N }) R Q room

@@ -44,7 +44,7 @@ pub fn entails(work: &mut [u16], size: usize, len: usize, n: usize, s: Tag, t: T
     table_labels::level(work, s, t)
 }
 
-// The same, and the labels are saved.
+// Whether s and t are equal by the list, with the labels of its closure saved.
 pub fn hold(work: &mut [u16], size: usize, len: usize, n: usize, s: Tag, t: Tag) -> Held
     requires { ⌜ Listed size len n (now work) × (s .0 < size) × (t .0 < size) ⌝ }
     ensures { λ r. ⌜ Holding size len n (s .0) (t .0) (now (work .entry)) (now (work .exit)) (r .joins) (r .same) ⌝ }

@@ -11,7 +11,7 @@ pub record Trimmed (rs : List Rec) (s t : ℕ) (X : ℕ → Type 0) (i : ℕ) : 
   pub entails : Follows (Those rs X) s t
   pub unspared : (m : ℕ) → m < i → X m → Follows (Those rs (λ n. X n × (n ≢ m))) s t → ⊥
 
--- The same on a list, in its order and by a test: kept is what has been gone through and stays.
+-- Trimming on a list, in its order and by a test: kept is what has been gone through and stays.
 abbrev pub trim : (List ℕ → Bool) → List ℕ → List ℕ → List ℕ
 trim test kept [] = kept
 trim test kept (k ∷ rest) = cond (test (kept ++ rest)) (trim test kept rest) (trim test (kept ++ (k ∷ [])) rest)

@@ -1,4 +1,5 @@
--- What those ask of the table who go through its joins: so many joins of some records are in it. And which of them are taken into a reason.
+-- What a function that goes through the joins asks of the table: it holds the past of some records, with so many joins or more. And which joins are marked: these are taken
+-- into a reason.
 -- Assumes nothing.
 use Prim.Native.Nat.{ℕ, _≤_}
 use mathlib.Core.Bool.{Bool}

@@ -37,7 +37,7 @@ fn ends(work: &[u16], b: usize) -> Pair
     }
 }
 
-// The same two, the one on the side of s first.
+// The two tags that a join brought together, the one on the side of s first.
 fn sides(work: &[u16], s: Tag, t: Tag, b: usize) -> Pair
     requires { ⌜ Crossed (now work) (s .0) (t .0) b ⌝ }
     ensures { λ r. ⌜ Sided (now (work .entry)) (s .0) (t .0) b (r .near .0) (r .far .0) ⌝ }

@@ -29,7 +29,7 @@ pub record Arranged (n : ℕ) (w w′ : List ℕ) : Type 0 where
   pub kept : Within (allOf LIST) w w′
   pub same : (x : ℕ) → List·Memᴰ x (listIn n w) ↔ List·Memᴰ x (listIn n w′)
 
--- The same, and p of its places at most are settled.
+-- The list is arranged so, and at most p of its places are settled.
 pub record Brought (n p : ℕ) (w w′ : List ℕ) : Type 0 where
   pub within : p ≤ n
   pub arranged : Arranged n w w′
@@ -58,7 +58,7 @@ pub record Serving (rs : List Rec) (s t : ℕ) (L : List ℕ) : Type 0 where
   pub entails : Follows (Only rs L) s t
   pub unspared : Unspared rs s t L
 
--- The same of the first n numbers of the table's list, for the tags of the question.
+-- The first n numbers of the table's list make the tags of the question equal.
 abbrev pub Entailed : List ℕ → Question → ℕ → Type 0
 Entailed w q n = Follows (Only (recordsIn (q .len) w) (listIn n w)) (q .s .0) (q .t .0)
 

@@ -72,7 +72,7 @@ fn bring(work: &mut [u16], count: usize, p: usize, r: RecordNo) -> usize
     p
 }
 
-// The same for both records of the join of age a.
+// Both records of the join of age a come forward in that way.
 fn bring_both(work: &mut [u16], count: usize, p: usize, a: usize) -> usize
     requires { ⌜ Large (now work) × (count ≤ mostRecords) × (p ≤ count) × (a < mostTags) ⌝ }
     ensures { λ n. ⌜ Brought count n (now (work .entry)) (now (work .exit)) ⌝ }
@@ -96,7 +96,7 @@ fn arrange(work: &mut [u16], count: usize, joins: usize)
     }
 }
 
-// The same test for a list in any order.
+// Whether a list in any order makes s and t equal with none to spare.
 pub fn serves(work: &mut [u16], count: usize, q: Question) -> bool
     requires { ⌜ Named (now work) q count ⌝ }
     ensures { λ r. ⌜ Deciding (Sufficient (now (work .entry)) q count) (now (work .entry)) (now (work .exit)) r ⌝ }

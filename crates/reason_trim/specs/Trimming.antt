@@ -32,8 +32,8 @@ pub record Trying (N len s t : ℕ) (w : List ℕ) (kept i n : ℕ) : Type 0 whe
   pub entails : Follows (Those (recordsIn len w) (Left w kept i n)) s t
   pub unspared : (m : ℕ) → List·Memᴰ m (listIn kept w) → Follows (Those (recordsIn len w) (λ k. Left w kept i n k × (k ≢ m))) s t → ⊥
 
--- From w to w′ those from i up to j were tried, and no number from e on was written: nothing came to what is left, and of what the
--- next ones leave nothing went.
+-- From w to w′ the records from i up to j were tried, and no place from e on was written. No record came to those that are left, and of
+-- those that will be left once more records have been tried none was lost.
 pub record Tried (e N len s t : ℕ) (w w′ : List ℕ) (kept i j n kept′ : ℕ) : Type 0 where
   pub kept-in : Within (fromTo (LIST .at) e) w w′
   pub fewer : (k : ℕ) → Left w′ kept′ j n k → Left w kept i n k

@@ -1,10 +1,14 @@
--- `begin` meets its contract. Each of the four parts that are written is outside the others.
+-- `begin` meets its contract. Each of the four parts that are written behind the clearing is outside the others.
 -- Assumes nothing.
 use borrow.Author.Needs.{needs}
+use native.Mathlib.Omega.{arith}
 use mathlib.Core.Path.{refl}
 use Rattle.all_close.proofs.begin.Statement.{statement}
 use Rattle.all_close.proofs.begin.Tie as tie
-use Rattle.all_close.proofs.Moments.{begun}
+use Rattle.all_close.proofs.Moments.{begun, begun-after}
+
+wipe-requires : tie.Need-wipe-requires
+wipe-requires c κs = search needs
 
 unlink-requires : tie.Need-unlink-requires
 unlink-requires c κs = search needs
@@ -45,12 +49,15 @@ returns c =
     let f = z .before .before .before .before in
     let k = f .before .before .before .before in
     let u = k .before .before .before .before in
-    begun (z .fill .last .0) (k .count-up .last .0) (u .before .before .before .pre) (u .unlink .ensures) (k .count-up .kept .0) refl (k .count-up .ensures) (f .fresh .ensures) (z .fill .kept .0) refl (z .fill .ensures)
+    let p = u .before .before .before .before in
+    begun-after (p .wipe .ensures .frame)
+    (begun (z .fill .last .0) (k .count-up .last .0) (omega (arith, p .wipe .ensures .frame .size, p .before .before .before .pre)) (u .unlink .ensures) (k .count-up .kept .0) refl (k .count-up .ensures) (f .fresh .ensures) (z .fill .kept .0) refl (z .fill .ensures))
 
 pub begin-spec : {M : Type 1} → statement M
 begin-spec =
     tie.close
     (tie.spec
+    wipe-requires
     unlink-requires
     sub-count-up
     part-count-up-start
