@@ -23,6 +23,7 @@ use Rattle.table.proofs.Frame.{seen-in, within-refl, within-trans, within-wider
 use Rattle.table.specs.Past.{Past}
 use Rattle.table.specs.Places.{LIST, Large, MARKS, SAVED, allOf, fromTo}
 use Rattle.moment.specs.Meeting.{leaderAt, Met}
+use Rattle.moment.specs.Deep.{MetBefore}
 use Rattle.moment.specs.Holding.{Holds, marked}
 use Rattle.reason_follow.specs.Tracing.{Together, Crossed, Sided, Caused, Traced, Unmarked}
 use Rattle.moment.proofs.Kept.{kept-parents, kept-ages, kept-records, kept-joins, kept-past, kept-holds, holds-fewer}
@@ -235,12 +236,15 @@ taken-two {w} {w₁} {w₂} {b} k g z x y = record {
     two = within-trans (x .kept) (y .kept)
 
 -- What a call needs of its own callees.
-pub crossed-of : {w : List ℕ} {s t limit b : ℕ} → Together w s t limit → Met w s t b → (b < limit) × Crossed w s t b
+pub age-low : {w : List ℕ} {limit : ℕ} → Holds w limit → limit ≤ mostTags
+age-low h = omega (arith, h .reach, h .past .history .room)
+
+pub crossed-of : {w : List ℕ} {s t limit b : ℕ} → Together w s t limit → MetBefore w limit s t b → (b < limit) × Crossed w s t b
 crossed-of {w} {s} {t} {limit} {b} h m = go (decLt b limit)
   where
     go : Dec (b < limit) → (b < limit) × Crossed w s t b
-    go (yes l) = (l, record { holds = holds-fewer l (h .holds); from = h .from; to = h .to; met = m })
-    go (no l) = absurd (m .apart limit (omega arith) (h .equal))
+    go (yes l) = (l, record { holds = holds-fewer l (h .holds); from = h .from; to = h .to; met = record { most = omega (arith, age-low (h .holds)); joined = λ k. m .joined l; apart = m .apart } })
+    go (no l) = absurd (m .apart limit (omega (arith, m .most)) (h .equal))
 
 pub together-near : {w : List ℕ} {s t b near far : ℕ} → Crossed w s t b → Sided w s t b near far → Together w s near b
 together-near x d = record { holds = holds-fewer (omega arith) (x .holds); from = x .from; to = d .near-tag; equal = d .from }

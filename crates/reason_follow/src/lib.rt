@@ -94,7 +94,7 @@ pub fn trace(work: &mut [u16], s: Tag, t: Tag, limit: usize)
     ensures { λ _. ⌜ Traced (now (work .entry)) (now (work .exit)) limit (s .0) (t .0) (tags (s .0) (t .0)) ⌝ }
 {
     if !s.is(t) {
-        let b = moment::met(work, s, t);
+        let b = moment::met_before(work, limit, s, t);
         let e = sides(work, s, t, b);
         let near = e.near;
         let far = e.far;

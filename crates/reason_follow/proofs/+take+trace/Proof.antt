@@ -7,7 +7,7 @@ use borrow.Author.Tests.{eqb-true, eqb-false, not-true, not-false}
 use mathlib.Core.Path.{refl, sym, _∙_}
 use mathlib.Core.Logic.{⊎-elim}
 use Rattle.moment.proofs.Kept.{past-forest}
-use Rattle.reason_follow.proofs.Crossing.{holds-ranged, crossed-of, together-near, together-far, kept-together, kept-still, caused-lefts, caused-rights, caused-one, caused-two, taken-known, traced-same, traced-cross}
+use Rattle.reason_follow.proofs.Crossing.{holds-ranged, age-low, crossed-of, together-near, together-far, kept-together, kept-still, caused-lefts, caused-rights, caused-one, caused-two, taken-known, traced-same, traced-cross}
 use Rattle.table.proofs.Frame.{within-trans}
 use borrow.Fn.Kinds.{In}
 use borrow.Fn.PlainCycle.{Measures, is, falls, and}
@@ -19,7 +19,7 @@ use Rattle.reason_follow.proofs.trace.Kinds as trace-kinds
 use Rattle.reason_follow.proofs.+take+trace.Lts-trace as trace-lts
 use Rattle.meaning.proofs.Tag.is.Reads as is-reads
 use Rattle.meaning.proofs.RecordNo.is_none.Reads as is-none-reads
-use Rattle.moment.proofs.met.Reads as met-reads
+use Rattle.moment.proofs.met_before.Reads as met-before-reads
 use Rattle.reason_follow.proofs.causes_of.Reads as causes-of-reads
 use Rattle.reason_follow.proofs.sides.Reads as sides-reads
 use Rattle.table.proofs.mark.Reads as mark-reads
@@ -86,45 +86,45 @@ take-same-length-2 t c = refl
 take-returns-2 : (t : ℕ) → take-lts.Need-returns-2 (mark-reads.Asked, mark-reads.Learnt, causes-of-reads.Asked, causes-of-reads.Learnt, is-none-reads.Asked, is-none-reads.Learnt, trace-below t, trace.Post, put-mark-reads.Asked, put-mark-reads.Learnt) (take-at t) take.Post
 take-returns-2 t c = taken-known _ _ (sym (c .before .mark .ensures) ∙ c .if1 .left)
 
-trace-is-requires : (t : ℕ) → trace-lts.Need-is-requires (is-reads.Asked, is-reads.Learnt, met-reads.Asked, met-reads.Learnt, sides-reads.Asked, sides-reads.Learnt, trace-below t, trace.Post, take-below t, take.Post) (trace-at t) trace.Post
+trace-is-requires : (t : ℕ) → trace-lts.Need-is-requires (is-reads.Asked, is-reads.Learnt, met-before-reads.Asked, met-before-reads.Learnt, sides-reads.Asked, sides-reads.Learnt, trace-below t, trace.Post, take-below t, take.Post) (trace-at t) trace.Post
 trace-is-requires t c κs = search needs
 
-trace-met-requires : (t : ℕ) → trace-lts.Need-met-requires (is-reads.Asked, is-reads.Learnt, met-reads.Asked, met-reads.Learnt, sides-reads.Asked, sides-reads.Learnt, trace-below t, trace.Post, take-below t, take.Post) (trace-at t) trace.Post
-trace-met-requires t c κs =
+trace-met-before-requires : (t : ℕ) → trace-lts.Need-met-before-requires (is-reads.Asked, is-reads.Learnt, met-before-reads.Asked, met-before-reads.Learnt, sides-reads.Asked, sides-reads.Learnt, trace-below t, trace.Post, take-below t, take.Post) (trace-at t) trace.Post
+trace-met-before-requires t c κs =
     let start = c .before .before .before .before in
-    (past-forest (start .pre .1 .holds .past), (start .pre .1 .from, start .pre .1 .to, eqb-false _ _ (sym (c .before .before .is .ensures) ∙ not-true _ (c .before .if1 .taken))))
+    (past-forest (start .pre .1 .holds .past), (age-low (start .pre .1 .holds), start .pre .1 .from, start .pre .1 .to, eqb-false _ _ (sym (c .before .before .is .ensures) ∙ not-true _ (c .before .if1 .taken))))
 
-trace-sides-requires : (t : ℕ) → trace-lts.Need-sides-requires (is-reads.Asked, is-reads.Learnt, met-reads.Asked, met-reads.Learnt, sides-reads.Asked, sides-reads.Learnt, trace-below t, trace.Post, take-below t, take.Post) (trace-at t) trace.Post
-trace-sides-requires t c κs = crossed-of (c .before .before .before .before .before .before .pre .1) (c .before .met .ensures) .1
+trace-sides-requires : (t : ℕ) → trace-lts.Need-sides-requires (is-reads.Asked, is-reads.Learnt, met-before-reads.Asked, met-before-reads.Learnt, sides-reads.Asked, sides-reads.Learnt, trace-below t, trace.Post, take-below t, take.Post) (trace-at t) trace.Post
+trace-sides-requires t c κs = crossed-of (c .before .before .before .before .before .before .pre .1) (c .before .met-before .ensures) .1
 
-trace-trace-requires : (t : ℕ) → trace-lts.Need-trace-requires (is-reads.Asked, is-reads.Learnt, met-reads.Asked, met-reads.Learnt, sides-reads.Asked, sides-reads.Learnt, trace-below t, trace.Post, take-below t, take.Post) (trace-at t) trace.Post
+trace-trace-requires : (t : ℕ) → trace-lts.Need-trace-requires (is-reads.Asked, is-reads.Learnt, met-before-reads.Asked, met-before-reads.Learnt, sides-reads.Asked, sides-reads.Learnt, trace-below t, trace.Post, take-below t, take.Post) (trace-at t) trace.Post
 trace-trace-requires t c κs =
     let start = c .before .before .before .before .before .before .before .before .before .before in
-    let x = crossed-of (start .pre .1) (c .before .before .before .before .before .met .ensures) in
+    let x = crossed-of (start .pre .1) (c .before .before .before .before .before .met-before .ensures) in
     (omega (arith, start .pre .0, x .0), together-near (x .1) (c .before .before .before .sides .ensures))
 
-trace-trace-requires-2 : (t : ℕ) → trace-lts.Need-trace-requires-2 (is-reads.Asked, is-reads.Learnt, met-reads.Asked, met-reads.Learnt, sides-reads.Asked, sides-reads.Learnt, trace-below t, trace.Post, take-below t, take.Post) (trace-at t) trace.Post
+trace-trace-requires-2 : (t : ℕ) → trace-lts.Need-trace-requires-2 (is-reads.Asked, is-reads.Learnt, met-before-reads.Asked, met-before-reads.Learnt, sides-reads.Asked, sides-reads.Learnt, trace-below t, trace.Post, take-below t, take.Post) (trace-at t) trace.Post
 trace-trace-requires-2 t c κs =
     let start = c .before .before .before .before .before .before .before .before .before .before .before .before .before .before in
-    let x = crossed-of (start .pre .1) (c .before .before .before .before .before .before .before .before .before .met .ensures) in
+    let x = crossed-of (start .pre .1) (c .before .before .before .before .before .before .before .before .before .met-before .ensures) in
     (omega (arith, start .pre .0, x .0), kept-together (c .before .before .before .trace .ensures .kept) (together-far (x .1) (c .before .before .before .before .before .before .before .sides .ensures)))
 
-trace-take-requires : (t : ℕ) → trace-lts.Need-take-requires (is-reads.Asked, is-reads.Learnt, met-reads.Asked, met-reads.Learnt, sides-reads.Asked, sides-reads.Learnt, trace-below t, trace.Post, take-below t, take.Post) (trace-at t) trace.Post
+trace-take-requires : (t : ℕ) → trace-lts.Need-take-requires (is-reads.Asked, is-reads.Learnt, met-before-reads.Asked, met-before-reads.Learnt, sides-reads.Asked, sides-reads.Learnt, trace-below t, trace.Post, take-below t, take.Post) (trace-at t) trace.Post
 trace-take-requires t c κs =
     let start = c .before .before .before .before .before .before .before .before .before .before .before .before .before .before .before .before .before .before in
-    let x = crossed-of (start .pre .1) (c .before .before .before .before .before .before .before .before .before .before .before .before .before .met .ensures) in
+    let x = crossed-of (start .pre .1) (c .before .before .before .before .before .before .before .before .before .before .before .before .before .met-before .ensures) in
     (omega (arith, start .pre .0, x .0), kept-still (within-trans (c .before .before .before .before .before .before .before .trace .ensures .kept) (c .before .before .before .trace2 .ensures .kept)) (x .1 .holds))
 
-trace-same-length : (t : ℕ) → trace-lts.Need-same-length (is-reads.Asked, is-reads.Learnt, met-reads.Asked, met-reads.Learnt, sides-reads.Asked, sides-reads.Learnt, trace-below t, trace.Post, take-below t, take.Post) (trace-at t) trace.Post
+trace-same-length : (t : ℕ) → trace-lts.Need-same-length (is-reads.Asked, is-reads.Learnt, met-before-reads.Asked, met-before-reads.Learnt, sides-reads.Asked, sides-reads.Learnt, trace-below t, trace.Post, take-below t, take.Post) (trace-at t) trace.Post
 trace-same-length t c = c .before .before .take .ensures .kept .size ∙ c .before .before .before .before .before .before .trace2 .ensures .kept .size ∙ c .before .before .before .before .before .before .before .before .before .before .trace .ensures .kept .size
 
-trace-returns : (t : ℕ) → trace-lts.Need-returns (is-reads.Asked, is-reads.Learnt, met-reads.Asked, met-reads.Learnt, sides-reads.Asked, sides-reads.Learnt, trace-below t, trace.Post, take-below t, take.Post) (trace-at t) trace.Post
+trace-returns : (t : ℕ) → trace-lts.Need-returns (is-reads.Asked, is-reads.Learnt, met-before-reads.Asked, met-before-reads.Learnt, sides-reads.Asked, sides-reads.Learnt, trace-below t, trace.Post, take-below t, take.Post) (trace-at t) trace.Post
 trace-returns t c =
     let start = c .before .before .before .before .before .before .before .before .before .before .before .before .before .before .before .before .before .before .before .before .before in
-    let x = crossed-of (start .pre .1) (c .before .before .before .before .before .before .before .before .before .before .before .before .before .before .before .before .met .ensures) in
+    let x = crossed-of (start .pre .1) (c .before .before .before .before .before .before .before .before .before .before .before .before .before .before .before .before .met-before .ensures) in
     traced-cross (x .0) (x .1 .met) (c .before .before .before .before .before .before .before .before .before .before .before .before .before .before .sides .ensures) (c .before .before .before .before .before .before .before .before .before .before .trace .ensures) (c .before .before .before .before .before .before .trace2 .ensures) (c .before .before .take .ensures)
 
-trace-returns-2 : (t : ℕ) → trace-lts.Need-returns-2 (is-reads.Asked, is-reads.Learnt, met-reads.Asked, met-reads.Learnt, sides-reads.Asked, sides-reads.Learnt, trace-below t, trace.Post, take-below t, take.Post) (trace-at t) trace.Post
+trace-returns-2 : (t : ℕ) → trace-lts.Need-returns-2 (is-reads.Asked, is-reads.Learnt, met-before-reads.Asked, met-before-reads.Learnt, sides-reads.Asked, sides-reads.Learnt, trace-below t, trace.Post, take-below t, take.Post) (trace-at t) trace.Post
 trace-returns-2 t c = traced-same _ _ _ _ (eqb-true _ _ (sym (c .before .is .ensures) ∙ not-false _ (c .if1 .left)))
 
 pub +take+trace-spec : {M : Type 1} → statement M
@@ -154,8 +154,8 @@ pub +take+trace-spec : {M : Type 1} → statement M
     λ t. trace-lts.spec (
       is-reads.Asked,
       is-reads.Learnt,
-      met-reads.Asked,
-      met-reads.Learnt,
+      met-before-reads.Asked,
+      met-before-reads.Learnt,
       sides-reads.Asked,
       sides-reads.Learnt,
       trace-below t,
@@ -165,7 +165,7 @@ pub +take+trace-spec : {M : Type 1} → statement M
     )
     (trace-at t)
     trace.Post
-    (trace-is-requires t) (trace-met-requires t)
+    (trace-is-requires t) (trace-met-before-requires t)
     (trace-sides-requires t)
     (trace-trace-requires t)
     (trace-trace-requires-2 t)
