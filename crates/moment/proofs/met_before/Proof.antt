@@ -1,5 +1,6 @@
 -- `moment::met_before` meets its contract: the deeper of the two is lifted, and both climb from one depth. Assumes nothing.
 use denote.Ref.{now}
+use native.Mathlib.Omega.{arith}
 use Rattle.moment.specs.Deep.{Beside}
 use Rattle.moment.proofs.met_before.Statement.{statement}
 use Rattle.moment.proofs.met_before.Tie as tie
@@ -12,13 +13,13 @@ lift-requires : tie.Need-lift-requires
 lift-requires c κs =
     let s = c .before .before in
     let r = c .climb-abreast .ensures in
-    (s .pre .0, (s .pre .1 .0, s .pre .1 .1, r .x-tag, record { more = r .links; rest = r .near; deep = r .one; left = r .x-left }))
+    (s .pre .0, (s .pre .1 .0, s .pre .1 .1, omega (arith, r .x-tag, r .y-tag), record { more = r .links; rest = r .near; deep = r .one; left = r .x-left }))
 
 lift-requires-2 : tie.Need-lift-requires-2
 lift-requires-2 c κs =
     let s = c .before .before .before in
     let r = c .before .climb-abreast .ensures in
-    (s .pre .0, (s .pre .1 .0, s .pre .1 .2, r .y-tag, record { more = r .links; rest = r .far; deep = r .other; left = r .y-left }))
+    (s .pre .0, (s .pre .1 .0, s .pre .1 .2, omega (arith, r .x-tag, r .y-tag), record { more = r .links; rest = r .far; deep = r .other; left = r .y-left }))
 
 greater-requires : tie.Need-greater-requires
 greater-requires c κs = tt
