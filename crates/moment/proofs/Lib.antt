@@ -1,4 +1,5 @@
-pub mod Climb
+pub mod Deep
+pub mod Steps
 pub mod Kept
 pub mod Known
 pub mod Moments

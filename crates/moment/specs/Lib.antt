@@ -1,3 +1,4 @@
 pub mod Meeting
+pub mod Deep
 pub mod Holding
 pub mod Posed

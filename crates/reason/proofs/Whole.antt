@@ -28,7 +28,8 @@ use Rattle.table.specs.Past.{Past, ageAfter}
 use Rattle.table.specs.Places.{LIST, Part, scratch, spare}
 use Rattle.moment.specs.Meeting.{Met}
 use Rattle.moment.specs.Holding.{Holds, marked}
-use Rattle.reason_follow.specs.Tracing.{Together, Traced, Unmarked}
+use Rattle.reason_follow.specs.Ways.{followPart}
+use Rattle.reason_follow.specs.Tracing.{Together, Unfollowed, Traced, Unmarked}
 use Rattle.moment.proofs.Kept.{kept-records, kept-joins, kept-past, kept-loaded, kept-marks}
 use Rattle.moment.proofs.Known.{join-one, join-two}
 use Rattle.moment.proofs.Moments.{met-first, met-join, met-later, met-never, made-by}
@@ -111,13 +112,19 @@ module _ {N len n s t b : ℕ} {w : List ℕ} (J : Joining N len n s t b w) wher
     frame₁ : Within scratch w w₁
     frame₁ = wide (omega arith) (omega arith) (U .kept)
 
-    pub asks-trace : Together w₁ s t (suc b)
-    asks-trace = record {
+    follow₁ : Within followPart w w₁
+    follow₁ = within-wider followPart (omega arith) (omega arith) (U .kept)
+
+    together : Together w₁ s t (suc b)
+    together = record {
       holds = record { tags = N; len = len; joins = n; past = kept-past frame₁ (J .past); reach = J .join };
       from = omega (arith, J .s-tag, J .past .loaded .few);
       to = omega (arith, J .t-tag, J .past .loaded .few);
-      equal = rw (kept-leader (U .kept) (suc b) s, kept-leader (U .kept) (suc b) t) (J .met .joined (omega (arith, few, J .join)));
+      equal = rw (kept-leader follow₁ (suc b) s, kept-leader follow₁ (suc b) t) (J .met .joined (omega (arith, few, J .join)));
     }
+
+    pub asks-trace : Unfollowed w₁ s t (suc b)
+    asks-trace = record { together = together; none = λ a l h. rw (U .none a (omega (arith, J .join))) at h }
 
     module _ {w₂ : List ℕ} (X : Traced w₁ w₂ (suc b) s t (tags s t)) where
       frame₂ : Within scratch w w₂

@@ -23,8 +23,10 @@ use Rattle.table.proofs.Frame.{seen-in, within-refl, within-trans, within-wider
 use Rattle.table.specs.Past.{Past}
 use Rattle.table.specs.Places.{LIST, Large, MARKS, SAVED, allOf, fromTo}
 use Rattle.moment.specs.Meeting.{leaderAt, Met}
+use Rattle.moment.specs.Deep.{MetBefore}
 use Rattle.moment.specs.Holding.{Holds, marked}
-use Rattle.reason_follow.specs.Tracing.{Together, Crossed, Sided, Caused, Traced, Unmarked}
+use Rattle.reason_follow.specs.Ways.{followPart}
+use Rattle.reason_follow.specs.Tracing.{Together, Crossed, Sided, Caused, Unmarked}
 use Rattle.moment.proofs.Kept.{kept-parents, kept-ages, kept-records, kept-joins, kept-past, kept-holds, holds-fewer}
 use Rattle.moment.proofs.Known.{join-one, join-two}
 
@@ -96,40 +98,21 @@ holds-pairs {w} {b} h z =
       rights = record { holds = holds-fewer (omega arith) h; from = omega (arith, o .first .small .1, h .past .loaded .few); to = omega (arith, o .second .small .1, h .past .loaded .few); equal = a .labels _ _ (o .rights) };
     }
 
--- Marks alone change nothing of the rest.
-wider : {w w′ : List ℕ} → Within (allOf MARKS) w w′ → Within (fromTo (LIST .at) (SAVED .at)) w w′
+-- What following writes changes nothing of the rest.
+pub wider : {w w′ : List ℕ} → Within followPart w w′ → Within (fromTo (LIST .at) (SAVED .at)) w w′
 wider f = within-wider (fromTo (LIST .at) (SAVED .at)) (omega arith) (omega arith) f
 
-pub kept-leader : {w w′ : List ℕ} → Within (allOf MARKS) w w′ → (a x : ℕ) → leaderAt w′ a x ≡ leaderAt w a x
+pub kept-leader : {w w′ : List ℕ} → Within followPart w w′ → (a x : ℕ) → leaderAt w′ a x ≡ leaderAt w a x
 kept-leader f a x = rw (kept-parents (wider f), kept-ages (wider f))
 
-pub kept-ends : {w w′ : List ℕ} → Within (allOf MARKS) w w′ → joinAt w′ ≡ joinAt w
-kept-ends f = kept-joins (wider f)
-
-pub kept-still : {w w′ : List ℕ} {a : ℕ} → Within (allOf MARKS) w w′ → Holds w a → Holds w′ a
+pub kept-still : {w w′ : List ℕ} {a : ℕ} → Within followPart w w′ → Holds w a → Holds w′ a
 kept-still f = kept-holds (wider f)
 
-pub kept-together : {w w′ : List ℕ} {s t b : ℕ} → Within (allOf MARKS) w w′ → Together w s t b → Together w′ s t b
+pub kept-together : {w w′ : List ℕ} {s t b : ℕ} → Within followPart w w′ → Together w s t b → Together w′ s t b
 kept-together {s = s} {t = t} {b = b} f h = record { holds = kept-still f (h .holds); from = h .from; to = h .to; equal = rw (kept-leader f b s, kept-leader f b t) (h .equal) }
 
-supported-moved : {rs rs′ : List Rec} {e e′ : ℕ → Join} {m : ℕ → Bool} {n : ℕ} → rs ≡ rs′ → e ≡ e′ → Supported rs′ e′ m n → Supported rs e m n
-supported-moved p q S = rw (p, q) S
-
-linked-moved : {e : ℕ → Join} {m : ℕ → Bool} {n x y x′ y′ : ℕ} → x ≡ x′ → y ≡ y′ → Linked e m n x y → Linked e m n x′ y′
-linked-moved p q i = rw (← p, ← q) i
-
--- What a later call did, said of the table at the start.
-walked-at : {w w₁ w₂ : List ℕ} {b s t : ℕ} {aim : Aim} → Within (allOf MARKS) w w₁ → Traced w₁ w₂ b s t aim → (N len n : ℕ) → Past N len w n → b ≤ n → Supported (recordsIn len w) (joinAt w) (marked w₁) n
-    → Walked (recordsIn len w) (joinAt w) n (marked w₁) (marked w₂) b s t
-walked-at {w} {w₁} f r N len n P l S =
-    rw (kept-records (wider f) len, kept-joins (wider f)) at (r .walked N len n (kept-past (wider f) P) l (supported-moved (kept-records (wider f) len) (kept-joins (wider f)) S))
-
-needed-at : {w w₁ w₂ : List ℕ} {b s t : ℕ} {aim : Aim} → Within (allOf MARKS) w w₁ → Traced w₁ w₂ b s t aim → (N len n : ℕ) → Past N len w n → b ≤ n → (a : ℕ) → T (marked w₂ a)
-    → T (marked w₁ a) ⊎ Needed (recordsIn len w) (joinAt w) aim a
-needed-at {w} {w₁} f r N len n P l a h = rw (kept-records (wider f) len, kept-joins (wider f)) at (r .needed N len n (kept-past (wider f) P) l a h)
-
 -- The newest join between s and t, in the words of the mathematics.
-crosses-of : {w : List ℕ} {s t b near far : ℕ} → Met w s t b → Sided w s t b near far → (N len n : ℕ) → Past N len w n → b ≤ n → Crosses (joinAt w) s t b near far
+pub crosses-of : {w : List ℕ} {s t b near far : ℕ} → Met w s t b → Sided w s t b near far → (N len n : ℕ) → Past N len w n → b ≤ n → Crosses (joinAt w) s t b near far
 crosses-of {w} {s} {t} {b} {near} {far} M d N len n P l =
     let A = P .history .then b l in
     record { apart = λ j. M .apart b (omega arith) (A .labels s t j); from = A .joins s near (d .from); onto = A .joins far t (d .onto); either = d .either }
@@ -144,123 +127,22 @@ marked-set w b l h = fun-ext (λ a. go a (ℕ-discrete a b))
     go a (yes q) = ap (λ (f : ℕ → ℕ). eqb (f a) 1) mark ∙ rw (q, put-hit b 1 (markOf w), put-hit b true (marked w)) refl
     go a (no q) = ap (λ (f : ℕ → ℕ). eqb (f a) 1) mark ∙ rw (put-miss b 1 (markOf w) a q, put-miss b true (marked w) a q) refl
 
--- One mark more is of the join itself.
-marked-more : (w : List ℕ) (b : ℕ) → b < mostTags → Large w → (rs : List Rec) (e : ℕ → Join) (a : ℕ) → T (marked (set w (MARKS .at + b) 1) a) → T (marked w a) ⊎ Needed rs e (join b) a
-marked-more w b l g rs e a h = go (subst (λ (x : Bool). T x) (ap (λ (f : ℕ → Bool). f a) (marked-set w b l g)) h) (ℕ-discrete a b)
-  where
-    go : T (put b true (marked w) a) → Dec (a ≡ b) → T (marked w a) ⊎ Needed rs e (join b) a
-    go i (yes q) = inr (rw q itself)
-    go i (no q) = inl (rw (put-miss b true (marked w) a q) at i)
-
--- What each way through the two functions leaves.
-pub traced-same : (w : List ℕ) (limit s t : ℕ) → s ≡ t → Traced w w limit s t (tags s t)
-traced-same w limit s t q = record { kept = within-refl w; walked = λ N len n P l S. rw q (walk-same limit t S); needed = λ N len n P l a h. inl h }
-
-pub traced-cross : {w w₁ w₂ w₃ : List ℕ} {s t b near far limit : ℕ} → suc b ≤ limit → Met w s t b → Sided w s t b near far → Traced w w₁ b s near (tags s near) → Traced w₁ w₂ b far t (tags far t)
-    → Traced w₂ w₃ (suc b) (joinAt w₂ b .u) (joinAt w₂ b .v) (join b) → Traced w w₃ limit s t (tags s t)
-traced-cross {w} {w₁} {w₂} {w₃} {s} {t} {b} {near} {far} {limit} l M d x y z = record {
-  kept = within-trans (x .kept) (within-trans (y .kept) (z .kept));
-  walked = all;
-  needed = λ N len n P m a h.
-      let c = crosses-of M d N len n P (omega arith) in
-      elim (needed-at two z N len n P (omega arith) a h) [
-        | inl h₂ ↦ elim (needed-at (x .kept) y N len n P (omega arith) a h₂) [
-          | inl h₁ ↦ elim (x .needed N len n P (omega arith) a h₁) [ inl h₀ ↦ inl h₀ | inr i ↦ inr (near-side c i) ]
-          | inr i ↦ inr (far-side c i)
-        ]
-        | inr i ↦ inr (across c i)
-      ];
-}
-  where
-    two : Within (allOf MARKS) w w₂
-    two = within-trans (x .kept) (y .kept)
-
-    all : (N len n : ℕ) → Past N len w n → limit ≤ n → Supported (recordsIn len w) (joinAt w) (marked w) n → Walked (recordsIn len w) (joinAt w) n (marked w) (marked w₃) limit s t
-    all N len n P m S =
-        let p = x .walked N len n P (omega arith) S in
-        let q = walked-at (x .kept) y N len n P (omega arith) (p .supported) in
-        let r = walked-at two z N len n P (omega arith) (q .supported) in
-        let e : Linked (joinAt w) (marked w₃) (suc b) (joinAt w b .u) (joinAt w b .v) = linked-moved (ap (λ (f : ℕ → Join). f b .u) (kept-ends two)) (ap (λ (f : ℕ → Join). f b .v) (kept-ends two)) (r .linked) in
-        let i : Linked (joinAt w) (marked w₃) (suc b) s near = linked-up (suc b) (omega arith) (linked-more (λ a h. r .more a (q .more a h)) (p .linked)) in
-        let j : Linked (joinAt w) (marked w₃) (suc b) far t = linked-up (suc b) (omega arith) (linked-more (λ a h. r .more a h) (q .linked)) in
-        record {
-          more = λ a h. r .more a (q .more a (p .more a h));
-          supported = r .supported;
-          linked = linked-up limit l (linked-trans i (linked-trans (across (d .either) e) j));
-        }
-      where
-        across : ((near ≡ joinAt w b .u) × (far ≡ joinAt w b .v)) ⊎ ((near ≡ joinAt w b .v) × (far ≡ joinAt w b .u)) → Linked (joinAt w) (marked w₃) (suc b) (joinAt w b .u) (joinAt w b .v)
-            → Linked (joinAt w) (marked w₃) (suc b) near far
-        across (inl k) e = rw (k .0, k .1) e
-        across (inr k) e = rw (k .0, k .1) (linked-sym e)
-
-pub taken-known : (w : List ℕ) (b : ℕ) → markOf w b ≡ 1 → Traced w w (suc b) (joinAt w b .u) (joinAt w b .v) (join b)
-taken-known w b q = record {
-  kept = within-refl w;
-  needed = λ N len n P l a h. inl h;
-  walked = λ N len n P l S. record { more = λ a h. h; supported = S; linked = over {n = b} (rw (eq-eqb (markOf w b) 1 q) tt) (linked-refl b (joinAt w b .u)) (linked-refl b (joinAt w b .v)) };
-}
-
-pub taken-one : (w : List ℕ) (b : ℕ) → b < mostTags → Large w → secondOf w b ≡ 0 → Traced w (set w (MARKS .at + b) 1) (suc b) (joinAt w b .u) (joinAt w b .v) (join b)
-taken-one w b k g z = record {
-  needed = λ N len n P l. marked-more w b k g (recordsIn len w) (joinAt w);
-  kept = within-set (allOf MARKS) w (MARKS .at + b) 1 (omega arith) (omega arith);
-  walked = λ N len n P l S. let o = join-one P b l z in
-      rw (marked-set w b k g) (walk-by b (suc b) (omega arith) (o .why) (o .at) (walk-same b (joinAt w b .u) S) (walk-same b (joinAt w b .v) S));
-}
-
-pub taken-two : {w w₁ w₂ : List ℕ} {b : ℕ} → b < mostTags → Large w → secondOf w b ≢ 0
-    → Traced w w₁ b (leftOf w (firstOf w b)) (leftOf w (secondOf w b)) (tags (leftOf w (firstOf w b)) (leftOf w (secondOf w b)))
-    → Traced w₁ w₂ b (rightOf w (firstOf w b)) (rightOf w (secondOf w b)) (tags (rightOf w (firstOf w b)) (rightOf w (secondOf w b)))
-    → Traced w (set w₂ (MARKS .at + b) 1) (suc b) (joinAt w b .u) (joinAt w b .v) (join b)
-taken-two {w} {w₁} {w₂} {b} k g z x y = record {
-  needed = λ N len n P l a h.
-      let o = join-two P b l z in
-      elim (marked-more w₂ b k (omega (arith, two .size)) (recordsIn len w) (joinAt w) a h) [
-        | inl h₂ ↦ elim (needed-at (x .kept) y N len n P (omega arith) a h₂) [
-          | inl h₁ ↦ elim (x .needed N len n P (omega arith) a h₁) [ inl h₀ ↦ inl h₀ | inr i ↦ inr (lefts (o .why) (o .at) (o .at′) i) ]
-          | inr i ↦ inr (rights (o .why) (o .at) (o .at′) i)
-        ]
-        | inr i ↦ inr i
-      ];
-  kept = within-trans two (within-set (allOf MARKS) w₂ (MARKS .at + b) 1 (omega arith) (omega arith));
-  walked = λ N len n P l S.
-      let o = join-two P b l z in
-      let p = x .walked N len n P (omega arith) S in
-      let q = walked-at (x .kept) y N len n P (omega arith) (p .supported) in
-      rw (marked-set w₂ b k (omega (arith, two .size))) (walk-cong b (suc b) (omega arith) (o .why) (o .at) (o .at′) (walk-same b (joinAt w b .u) S) (walk-same b (joinAt w b .v) S) p q);
-}
-  where
-    two : Within (allOf MARKS) w w₂
-    two = within-trans (x .kept) (y .kept)
-
 -- What a call needs of its own callees.
-pub crossed-of : {w : List ℕ} {s t limit b : ℕ} → Together w s t limit → Met w s t b → (b < limit) × Crossed w s t b
+pub age-low : {w : List ℕ} {limit : ℕ} → Holds w limit → limit ≤ mostTags
+age-low h = omega (arith, h .reach, h .past .history .room)
+
+pub crossed-of : {w : List ℕ} {s t limit b : ℕ} → Together w s t limit → MetBefore w limit s t b → (b < limit) × Crossed w s t b
 crossed-of {w} {s} {t} {limit} {b} h m = go (decLt b limit)
   where
     go : Dec (b < limit) → (b < limit) × Crossed w s t b
-    go (yes l) = (l, record { holds = holds-fewer l (h .holds); from = h .from; to = h .to; met = m })
-    go (no l) = absurd (m .apart limit (omega arith) (h .equal))
-
-pub together-near : {w : List ℕ} {s t b near far : ℕ} → Crossed w s t b → Sided w s t b near far → Together w s near b
-together-near x d = record { holds = holds-fewer (omega arith) (x .holds); from = x .from; to = d .near-tag; equal = d .from }
-
-pub together-far : {w : List ℕ} {s t b near far : ℕ} → Crossed w s t b → Sided w s t b near far → Together w far t b
-together-far x d = record { holds = holds-fewer (omega arith) (x .holds); from = d .far-tag; to = x .to; equal = d .onto }
+    go (yes l) = (l, record { holds = holds-fewer l (h .holds); from = h .from; to = h .to; met = record { most = omega (arith, age-low (h .holds)); joined = λ k. m .joined l; apart = m .apart } })
+    go (no l) = absurd (m .apart limit (omega (arith, m .most)) (h .equal))
 
 pub caused-lefts : {w : List ℕ} {b q a a′ c c′ : ℕ} → Holds w (suc b) → Caused w b q a a′ c c′ → q ≢ 0 → Together w a a′ b
 caused-lefts h k z = rw (k .a-is, k .a′-is) (holds-pairs h (λ e. z (k .second-is ∙ e)) .lefts)
 
 pub caused-rights : {w : List ℕ} {b q a a′ c c′ : ℕ} → Holds w (suc b) → Caused w b q a a′ c c′ → q ≢ 0 → Together w c c′ b
 caused-rights h k z = rw (k .c-is, k .c′-is) (holds-pairs h (λ e. z (k .second-is ∙ e)) .rights)
-
-pub caused-one : {w w′ : List ℕ} {b q a a′ c c′ : ℕ} → Holds w (suc b) → Caused w b q a a′ c c′ → q ≡ 0 → w′ ≡ set w (MARKS .at + b) 1 → Traced w w′ (suc b) (joinAt w b .u) (joinAt w b .v) (join b)
-caused-one {w} {w′} {b} h k z e = rw e (taken-one w b (holds-ranged h .age) (h .past .loaded .long) (sym (k .second-is) ∙ z))
-
-pub caused-two : {w w₁ w₂ w′ : List ℕ} {b q a a′ c c′ : ℕ} → Holds w (suc b) → Caused w b q a a′ c c′ → q ≢ 0 → Traced w w₁ b a a′ (tags a a′) → Traced w₁ w₂ b c c′ (tags c c′)
-    → w′ ≡ set w₂ (MARKS .at + b) 1 → Traced w w′ (suc b) (joinAt w b .u) (joinAt w b .v) (join b)
-caused-two {w} {w₁} {w₂} {w′} {b} h k z x y e =
-    rw e (taken-two (holds-ranged h .age) (h .past .loaded .long) (λ i. z (k .second-is ∙ i)) (rw (k .a-is, k .a′-is) at x) (rw (k .c-is, k .c′-is) at y))
 
 -- Taking the marks off, one by one.
 pub unmarked-start : (w : List ℕ) → Unmarked w w 0
