@@ -76,19 +76,36 @@ enum way way_for(const struct job *job)
     return job->tags <= SMALL_TAGS && job->records <= SMALL_RECORDS ? LITERALLY : BY_USE_LISTS;
 }
 
-static int literal_leader(const struct relation *relation, int s)
+static int literal_smallest(const struct relation *relation, int s)
 {
-    int leader = 0;
-    while (!literal_same(relation, s, leader))
-        leader++;
-    return leader;
+    int smallest = 0;
+    while (!literal_same(relation, s, smallest))
+        smallest++;
+    return smallest;
+}
+
+/* Document 02, No. 3: the smallest unit in the class, or the smallest tag if it has no unit. */
+static int literal_leader(const struct relation *relation, const struct job *job, int s)
+{
+    for (int x = job->units; x < job->tags; x++)
+        if (literal_same(relation, s, x))
+            return x;
+    return literal_smallest(relation, s);
+}
+
+static int leader(const struct closure *closure, const struct job *job, int s)
+{
+    for (int x = job->units; x < job->tags; x++)
+        if (closure_same(closure, s, x))
+            return x;
+    return closure_leader(closure, s);
 }
 
 static int literal_classes(const struct relation *relation, int tags)
 {
     int classes = 0;
     for (int x = 0; x < tags; x++)
-        classes += literal_leader(relation, x) == x;
+        classes += literal_smallest(relation, x) == x;
     return classes;
 }
 
@@ -141,8 +158,8 @@ static void history_literally(struct history *history, const struct job *job)
         const struct question *q = &job->question[i];
         struct moment *m = &history->moment[i];
         m->follows = literal_same(&after[q->before], q->s, q->t);
-        m->leader_s = literal_leader(&after[q->before], q->s);
-        m->leader_t = literal_leader(&after[q->before], q->t);
+        m->leader_s = literal_leader(&after[q->before], job, q->s);
+        m->leader_t = literal_leader(&after[q->before], job, q->t);
         m->classes = literal_classes(&after[q->before], job->tags);
         m->first = 0;
         if (m->follows)
@@ -171,8 +188,8 @@ static void history_by_use_lists(struct history *history, const struct job *job)
         const struct question *q = &job->question[i];
         struct moment *m = &history->moment[i];
         m->follows = closure_same(closure, q->s, q->t);
-        m->leader_s = closure_leader(closure, q->s);
-        m->leader_t = closure_leader(closure, q->t);
+        m->leader_s = leader(closure, job, q->s);
+        m->leader_t = leader(closure, job, q->t);
         m->classes = closure_classes(closure);
         m->first = m->follows && q->s != q->t ? first[q->s * job->tags + q->t] : 0;
     }

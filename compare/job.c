@@ -43,6 +43,17 @@ static int too_many(const struct job *job, int kind)
     }
 }
 
+/* Document 02, No. 3: a header has N, or N and U. */
+static int length_fits(int kind, int length)
+{
+    return length == body_length(kind) || (kind == KIND_TAGS && length == 4);
+}
+
+static int header_in_range(const unsigned char *body, int length)
+{
+    return two_bytes(body) >= 1 && two_bytes(body) <= MOST_TAGS && (length == 2 || two_bytes(body + 2) <= two_bytes(body));
+}
+
 /* Which number of the body is a tag of N or more, counted from 0; of several the first. -1 if there is none. */
 static int wrong_tag(const struct job *job, int kind, const unsigned char *body)
 {
@@ -62,14 +73,15 @@ static int field_refusal(const struct job *job, const unsigned char *bytes, size
     const unsigned char *body = bytes + at + 3;
     if (!in_its_place(kind, at == 0))
         return 4;
-    if (two_bytes(bytes + at + 1) != body_length(kind))
+    int stated = two_bytes(bytes + at + 1);
+    if (!length_fits(kind, stated))
         return 5;
-    if (length - at - 3 < (size_t)body_length(kind))
+    if (length - at - 3 < (size_t)stated)
         return 3;
     if (too_many(job, kind))
         return 7;
     if (kind == KIND_TAGS)
-        return two_bytes(body) >= 1 && two_bytes(body) <= MOST_TAGS ? 0 : 6;
+        return header_in_range(body, stated) ? 0 : 6;
     int wrong = wrong_tag(job, kind, body);
     if (wrong < 0)
         return 0;
@@ -103,6 +115,7 @@ void job_read(struct job *job, const unsigned char *bytes, size_t length)
     job->number = 0;
     job->place = 0;
     job->tags = 0;
+    job->units = 0;
     job->records = 0;
     job->questions = 0;
     job->needed = 7;
@@ -120,10 +133,12 @@ void job_read(struct job *job, const unsigned char *bytes, size_t length)
         }
         int kind = bytes[at];
         const unsigned char *body = bytes + at + 3;
-        at += 3 + (size_t)body_length(kind);
-        if (kind == KIND_TAGS)
+        int stated = two_bytes(bytes + at + 1);
+        at += 3 + (size_t)stated;
+        if (kind == KIND_TAGS) {
             job->tags = two_bytes(body);
-        else if (kind == KIND_EQUAL || kind == KIND_APPLY)
+            job->units = stated == 4 ? two_bytes(body + 2) : job->tags;
+        } else if (kind == KIND_EQUAL || kind == KIND_APPLY)
             take_record(job, kind, body);
         else if (kind == KIND_ASK || kind == KIND_EXPLAIN)
             take_question(job, kind, body);

@@ -1,4 +1,4 @@
-/* A job read by document 01, sections "The job and the report" and "What is lent, and each refusal", and by document 02, No. 2.
+/* A job read by document 01, sections "The job and the report" and "What is lent, and each refusal", and by document 02, No. 2 and 3.
    Written from those documents alone; rests on nothing else here. */
 #ifndef JOB_H
 #define JOB_H
@@ -6,7 +6,7 @@
 #include <stddef.h>
 
 enum {
-    LONGEST_JOB = 43008,
+    LONGEST_JOB = 43010,
     MOST_TAGS = 1000,
     MOST_RECORDS = 4000,
     MOST_QUESTIONS = 1000,
@@ -45,6 +45,7 @@ struct job {
     int number;
     long place;
     int tags;
+    int units; /* tags from here up are units (document 02, No. 3); as many as `tags` where the header does not say */
     int records;
     int questions;
     long needed; /* the report room that is needed */

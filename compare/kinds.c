@@ -21,6 +21,21 @@ static void tags(struct bytes *out, int n)
     field(out, KIND_TAGS, 1, n, 0, 0);
 }
 
+/* Document 02, No. 3: tags from u up are units. */
+static void tags_and_units(struct bytes *out, int n, int u)
+{
+    field(out, KIND_TAGS, 2, n, u, 0);
+}
+
+/* Either header, with any U. */
+static void any_tags(struct bytes *out, int n, uint64_t *state)
+{
+    if (random_below(state, 3) == 0)
+        tags(out, n);
+    else
+        tags_and_units(out, n, random_below(state, n + 1));
+}
+
 static void equal(struct bytes *out, int a, int b)
 {
     field(out, KIND_EQUAL, 2, a, b, 0);
@@ -145,7 +160,7 @@ static void crossed_job(struct bytes *out)
 
 static void spare_job(struct bytes *out)
 {
-    tags(out, 4);
+    tags_and_units(out, 4, 3);
     equal(out, 0, 1);
     equal(out, 2, 3);
     equal(out, 1, 2);
@@ -182,7 +197,7 @@ static void make_small(struct bytes *out, int size, uint64_t seed, long index)
     int n = 1 + random_below(&state, size);
     int records = random_below(&state, 31), questions = random_below(&state, 13);
     int applied = 20 * random_below(&state, 6), twice = 25 * random_below(&state, 5);
-    tags(out, n);
+    any_tags(out, n, &state);
     while (records + questions > 0) {
         if (random_below(&state, records + questions) < records) {
             random_record(out, n, applied, twice, &state);
@@ -318,6 +333,20 @@ static void limit_tags(struct bytes *out, int which)
     end(out);
 }
 
+/* U of 0, N-1, N and N+1, and far above, for some N. */
+static void limit_units(struct bytes *out, int which)
+{
+    static const int n[] = {0, 1, 5, 1000, 1001};
+    int size = n[which / 5], u[] = {0, size > 0 ? size - 1 : 0, size, size + 1, 65535};
+    tags_and_units(out, size, u[which % 5]);
+    if (size > 1) {
+        equal(out, size - 1, 0);
+        ask(out, 0, 1);
+        ask(out, size - 1, size - 2);
+    }
+    end(out);
+}
+
 /* One tag number at the limit: in which field and where in it, N, and whether it is N-1 or N. */
 static void limit_tag(struct bytes *out, int which)
 {
@@ -348,7 +377,10 @@ static void limit_tags_wrong(struct bytes *out, int which)
 
 static void limit_counts(struct bytes *out, int which)
 {
-    tags(out, 1);
+    if (which >= 16)
+        tags_and_units(out, 1, which % 2);
+    else
+        tags(out, 1);
     switch (which) {
     case 0:
     case 1:
@@ -371,12 +403,14 @@ static void limit_counts(struct bytes *out, int which)
         repeat_questions(out, 992 + which, 2);
         repeat_records(out, 4000, 0);
         break;
-    case 10: /* the longest job */
+    case 10: /* the longest job that states no U */
     case 11: /* a byte longer */
+    case 18: /* the longest job */
+    case 19: /* a byte longer */
         repeat_records(out, 4000, 1);
         repeat_questions(out, 1000, 2);
         end(out);
-        if (which == 11)
+        if (which % 2 == 1)
             byte_add(out, 0);
         return;
     case 12: /* the 4,001st record has a tag too high: 7 before 11 */
@@ -396,10 +430,10 @@ static void limit_counts(struct bytes *out, int which)
         repeat_questions(out, 1000, 0);
         explain(out, 0, 1);
         break;
-    default: /* 16 and 17: no end, of 43,008 and of 43,009 bytes */
+    default: /* 16 and 17: no end, of the longest job's bytes and of one more */
         repeat_records(out, 4000, 1);
         repeat_questions(out, 1000, 0);
-        while (out->length < (size_t)(43008 + which - 16))
+        while (out->length < (size_t)(LONGEST_JOB + which - 16))
             byte_add(out, 0x10);
         return;
     }
@@ -414,12 +448,13 @@ static void limit_shape(struct bytes *out, int which)
         {0x00, 0, 0},          {0x05, 0, 4, 0, 0, 0, 0}, {0x0F, 0, 0},          {0x11, 0, 2, 0, 1}, {0x80, 0, 0},
         {0x83, 0, 4, 0, 0},    {0xFF, 0xFF, 0xFF},       {0x01, 0, 6, 0, 0},    {0x01, 0, 2, 0, 0}, {0x01, 4, 0, 0, 0},
         {0x02, 0, 4, 0, 0},    {0x03, 0, 6, 0, 0},       {0x04, 0, 2, 0, 0},    {0x04, 1, 4, 0, 0}, {0x01, 0, 4, 0, 0, 0},
-        {0x7F},                {0x7F, 0},                {0x10, 0},             {0x00},             {0x01, 0, 4}};
-    static const int length[] = {5, 7, 3, 5, 4, 3, 7, 3, 5, 3, 5, 3, 5, 5, 5, 5, 5, 5, 5, 6, 1, 2, 2, 1, 3};
-    if (which >= 25)
+        {0x7F},                {0x7F, 0},                {0x10, 0},             {0x00},             {0x01, 0, 4},
+        {0x10, 0, 3, 0, 1, 0}, {0x10, 0, 6, 0, 1, 0, 1}, {0x10, 0, 4, 0, 1, 0}, {0x10, 0, 4, 0, 1}, {0x10, 4, 0, 0, 1, 0, 1}};
+    static const int length[] = {5, 7, 3, 5, 4, 3, 7, 3, 5, 3, 5, 3, 5, 5, 5, 5, 5, 5, 5, 6, 1, 2, 2, 1, 3, 6, 7, 6, 5, 7};
+    if (which >= 30)
         tags(out, 2);
-    for (int i = 0; i < length[which % 25]; i++)
-        byte_add(out, shape[which % 25][i]);
+    for (int i = 0; i < length[which % 30]; i++)
+        byte_add(out, shape[which % 30][i]);
 }
 
 /* Needed room of 60,000 bytes, which are lent, and of 60,001: 15 reasons of at most 1,998 numbers take 59,985, the totals 7. */
@@ -438,8 +473,8 @@ static void limit_room(struct bytes *out, int which)
     end(out);
 }
 
-enum { LIMIT_TAGS = 1, LIMIT_TAG = LIMIT_TAGS + 8, LIMIT_WRONG = LIMIT_TAG + 54, LIMIT_COUNTS = LIMIT_WRONG + 64, LIMIT_SHAPES = LIMIT_COUNTS + 18,
-       LIMIT_ROOM = LIMIT_SHAPES + 50, LIMIT_BEHIND = LIMIT_ROOM + 2, LIMITS = LIMIT_BEHIND + 2 };
+enum { LIMIT_TAGS = 1, LIMIT_TAG = LIMIT_TAGS + 8, LIMIT_WRONG = LIMIT_TAG + 54, LIMIT_COUNTS = LIMIT_WRONG + 64, LIMIT_SHAPES = LIMIT_COUNTS + 20,
+       LIMIT_ROOM = LIMIT_SHAPES + 60, LIMIT_BEHIND = LIMIT_ROOM + 2, LIMIT_UNITS = LIMIT_BEHIND + 2, LIMITS = LIMIT_UNITS + 25 };
 
 static long limit_cases(uint64_t seed)
 {
@@ -466,6 +501,8 @@ static void make_limit(struct bytes *out, int size, uint64_t seed, long index)
         limit_shape(out, which - LIMIT_SHAPES);
     else if (which < LIMIT_BEHIND)
         limit_room(out, which - LIMIT_ROOM);
+    else if (which >= LIMIT_UNITS)
+        limit_units(out, which - LIMIT_UNITS);
     else { /* a byte behind the end, and a second end */
         inspectors_job(out);
         byte_add(out, which == LIMIT_BEHIND ? 0 : KIND_END);
@@ -655,7 +692,7 @@ static void make_dense(struct bytes *out, int n, uint64_t seed, long index)
 {
     uint64_t state = state_of(seed, index);
     int records = 4 * n, equations = 1 + random_below(&state, 40);
-    tags(out, n);
+    any_tags(out, n, &state);
     for (int i = 1; i <= records; i++) {
         random_record(out, n, 100 - equations, 20, &state);
         if (i % (n / 3 + 1) == 0)
@@ -670,7 +707,7 @@ static void make_dense(struct bytes *out, int n, uint64_t seed, long index)
 static void make_questions(struct bytes *out, int n, uint64_t seed, long index)
 {
     uint64_t state = state_of(seed, index);
-    tags(out, n);
+    any_tags(out, n, &state);
     for (int i = 1; i <= MOST_RECORDS; i++) {
         random_record(out, n, 85, 20, &state);
         if (i % 4 == 0) {

@@ -28,7 +28,7 @@ enum haltzurme_number {
     HALTZURME_SHORT = 3,    /* the job ends inside a field or before the end field. From here to 8: the field's first byte */
     HALTZURME_KIND = 4,     /* a kind unknown or out of its place */
     HALTZURME_LENGTH = 5,   /* a wrong length for the kind */
-    HALTZURME_RANGE = 6,    /* N is 0 or above HALTZURME_MOST_TAGS */
+    HALTZURME_RANGE = 6,    /* N is 0 or above HALTZURME_MOST_TAGS, or U is above N */
     HALTZURME_MANY = 7,     /* a record or a question too many */
     HALTZURME_BEHIND = 8,   /* a byte behind the end field */
     HALTZURME_ROOM = 9,     /* the run: the room is smaller than needed. Place 0 */
@@ -43,7 +43,7 @@ enum haltzurme_limit {
     HALTZURME_MOST_TAGS = 1000,
     HALTZURME_MOST_RECORDS = 4000,
     HALTZURME_MOST_QUESTIONS = 1000,
-    HALTZURME_LONGEST_JOB = 43008,      /* bytes */
+    HALTZURME_LONGEST_JOB = 43010,      /* bytes */
     HALTZURME_LONGEST_REPORT = 3999007, /* bytes that are enough room for every job */
     HALTZURME_WORK = 32768,             /* numbers of the work table */
     HALTZURME_STACK = 131072            /* bytes of stack that a call may need, with a margin; bench/stack measures it */

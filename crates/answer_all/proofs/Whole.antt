@@ -2,13 +2,13 @@
 -- Assumes nothing.
 use Prim.Native.Nat.{ℕ, suc, _+_, _-_, _≤_}
 use native.Mathlib.Omega.{arith}
-use mathlib.Core.Path.{_≡_, _∙_, ap}
+use mathlib.Core.Path.{_≡_, refl, _∙_, ap}
 use mathlib.Core.List.{List, [], _∷_, _++_}
 use lib.ListN.{length, length-append}
 use Rattle.meaning.proofs.Laws.{idles-most}
 use Rattle.meaning.specs.Limits.{mostRecords}
-use Rattle.job_field.specs.Items.{recordsOf}
-use Rattle.job_field.specs.Reading.{itemsIn}
+use Rattle.job_field.specs.Items.{Head, recordsOf}
+use Rattle.job_field.specs.Reading.{fieldAt, unitsOf, headIn, itemsIn}
 use Rattle.table.specs.Map.{recAt, recordsIn}
 use Rattle.table.proofs.Frame.{length-gather, within-trans, within-wider}
 use Rattle.table.proofs.Kept.{records-same}
@@ -23,13 +23,17 @@ module _ {job room w : List ℕ} {N len : ℕ} (r : Ready job room w N len) {w�
   records-after : recordsIn len w₁ ≡ recordsOf (itemsIn job)
   records-after = records-same (c .kept) len ∙ r .records
 
-  pub asking-after : Asking job w₁ N len joins
-  asking-after = record { stands = r .stands; size = r .size; short = r .short; few = r .few; records = records-after; past = c .past }
+  -- U is read off the first field.
+  head-read : (u : ℕ) → u ≡ unitsOf (fieldAt job 0) → headIn job ≡ record { size = N; units = u }
+  head-read u e = let z : u ≡ headIn job .units = e ∙ ap unitsOf (r .stands .first) in rw (z, ← r .size) refl
+
+  pub asking-after : (u : ℕ) → u ≡ unitsOf (fieldAt job 0) → Asking job w₁ (record { size = N; units = u }) len joins
+  asking-after u e = record { stands = r .stands; head = head-read u e; short = r .short; few = r .few; records = records-after; past = c .past }
 
   pub idle-few : idle ≤ mostRecords
   idle-few = omega (arith, idles-most (c .idles), length-gather (λ k. recAt w₁ (suc k)) len, r .loaded .most)
 
-  module _ {w₂ room₁ : List ℕ} {end : ℕ} (t : Told job w₁ room N len joins w₂ room₁ end) where
+  module _ {H : Head} {w₂ room₁ : List ℕ} {end : ℕ} (t : Told job w₁ room H len joins w₂ room₁ end) where
     pub told-room : end + 7 ≤ length room₁
     told-room = omega (arith, ap length (t .front), length-laid 0 (t .bytes) room (omega (arith, t .reached, t .fits)), t .fits)
 

@@ -5,7 +5,7 @@ use mathlib.Core.Path.{_≡_}
 use mathlib.Core.Bool.{Bool, true, false}
 use mathlib.Core.List.{List, [], _++_}
 use lib.ListN.{length, drop}
-use Rattle.job_field.specs.Items.{Note, standsFor, Moment, start, Question, Item, noted, posed, recordsOf, neededRoom}
+use Rattle.job_field.specs.Items.{Head, Note, standsFor, Moment, start, Question, Item, noted, posed, recordsOf, neededRoom}
 use Rattle.job_field.specs.Reading.{Field, bad, header, item, end, headIn, itemsIn, matterIn, longest}
 use Rattle.job_field.specs.Standing.{Stands, Job}
 use Rattle.table.specs.Map.{recordsIn, Loaded, Within}
@@ -14,28 +14,28 @@ use Rattle.table.specs.Places.{behindColumns, scratch}
 use Rattle.report.specs.Report.{Sound, laid}
 use Rattle.answer_ask.specs.Facing.{Facing, Answered}
 
--- The job stands as N tags and its items, and the table holds the past of its records.
-pub record Asking (job w : List ℕ) (N len joins : ℕ) : Type 0 where
+-- The job stands as N tags with U and its items, and the table holds the past of its records.
+pub record Asking (job w : List ℕ) (H : Head) (len joins : ℕ) : Type 0 where
   pub stands : Job job (headIn job) (itemsIn job)
-  pub size : headIn job .size ≡ N
+  pub head : headIn job ≡ H
   pub short : length job ≤ longest job
   pub few : len ≡ length (recordsOf (itemsIn job))
   pub records : recordsIn len w ≡ recordsOf (itemsIn job)
-  pub past : Past N len w joins
+  pub past : Past (H .size) len w joins
 
 -- What meeting an item leads to: a note is passed and a question answered.
-pub data Stepped (w room : List ℕ) (N len next out before : ℕ) : Item → ℕ → ℕ → ℕ → List ℕ → List ℕ → Type 0 where
-  passes : {n : Note} → Stepped w room N len next out before (noted n) next out (before + length (standsFor n)) w room
-  answers : {q : Question} {end : ℕ} {w′ room′ : List ℕ} → Answered w room N len before out q w′ room′ end → Stepped w room N len next out before (posed q) next end before w′ room′
+pub data Stepped (w room : List ℕ) (H : Head) (len next out before : ℕ) : Item → ℕ → ℕ → ℕ → List ℕ → List ℕ → Type 0 where
+  passes : {n : Note} → Stepped w room H len next out before (noted n) next out (before + length (standsFor n)) w room
+  answers : {q : Question} {end : ℕ} {w′ room′ : List ℕ} → Answered w room H len before out q w′ room′ end → Stepped w room H len next out before (posed q) next end before w′ room′
 
 -- A field that is an item is met: a note whose records can be counted, or a question.
-pub data Meeting (w room : List ℕ) (N len joins out before : ℕ) : Field → Type 0 where
-  note-met : {n : Note} → before + length (standsFor n) < 65536 → Meeting w room N len joins out before (item (noted n))
-  question-met : {q : Question} → Facing w room N len joins before out q → Meeting w room N len joins out before (item (posed q))
+pub data Meeting (w room : List ℕ) (H : Head) (len joins out before : ℕ) : Field → Type 0 where
+  note-met : {n : Note} → before + length (standsFor n) < 65536 → Meeting w room H len joins out before (item (noted n))
+  question-met : {q : Question} → Facing w room H len joins before out q → Meeting w room H len joins out before (item (posed q))
 
 -- What a field leads to that is an item.
-pub data Onward (w room : List ℕ) (N len next out before : ℕ) (at′ out′ before′ : ℕ) (w′ room′ : List ℕ) : Field → Type 0 where
-  onward : {i : Item} → Stepped w room N len next out before i at′ out′ before′ w′ room′ → Onward w room N len next out before at′ out′ before′ w′ room′ (item i)
+pub data Onward (w room : List ℕ) (H : Head) (len next out before : ℕ) (at′ out′ before′ : ℕ) (w′ room′ : List ℕ) : Field → Type 0 where
+  onward : {i : Item} → Stepped w room H len next out before i at′ out′ before′ w′ room′ → Onward w room H len next out before at′ out′ before′ w′ room′ (item i)
 
 -- The end field.
 abbrev pub isEnd : Field → Bool
@@ -46,8 +46,8 @@ isEnd end = true
 
 -- Midway through the job: the items from `at` on are still to be answered, and what stands at the front of the room makes a sound report of
 -- whatever is a sound report of them.
-pub record Midway (job w room : List ℕ) (N len joins at out before : ℕ) (w′ room′ : List ℕ) : Type 0 where
-  pub asking : Asking job w′ N len joins
+pub record Midway (job w room : List ℕ) (H : Head) (len joins at out before : ℕ) (w′ room′ : List ℕ) : Type 0 where
+  pub asking : Asking job w′ H len joins
   pub rest : List Item
   pub stands : Stands job (headIn job .size) at rest
   pub moment : Moment
@@ -61,7 +61,7 @@ pub record Midway (job w room : List ℕ) (N len joins at out before : ℕ) (w�
   pub kept : Within scratch w w′
 
 -- All questions answered: the totals are left to write, at the end of what stands in the room.
-pub record Told (job w room : List ℕ) (N len joins : ℕ) (w′ room′ : List ℕ) (end : ℕ) : Type 0 where
+pub record Told (job w room : List ℕ) (H : Head) (len joins : ℕ) (w′ room′ : List ℕ) (end : ℕ) : Type 0 where
   pub moment : Moment
   pub bytes : List ℕ
   pub sound : (bs : List ℕ) → Sound (matterIn job) moment [] bs → Sound (matterIn job) start (itemsIn job) (bytes ++ bs)

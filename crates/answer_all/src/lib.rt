@@ -6,6 +6,7 @@ ghost use lib.ListN.{length};
 ghost use Rattle.job_field.specs.Items.{start, neededRoom};
 ghost use Rattle.job_field.specs.Reading.{headIn, itemsIn};
 ghost use Rattle.job_field.specs.Answer.{questionSaid, said};
+ghost use Rattle.moment.specs.Posed.{headOf};
 ghost use Rattle.answer_ask.specs.Facing.{Facing, Answered};
 ghost use Rattle.answer_all.specs.Asking.{isEnd, Asking, Meeting, Onward, Told, Ready, Responded};
 use all_close::close;
@@ -16,6 +17,7 @@ use job_field::Query;
 use job_field::behind;
 use job_field::read;
 use job_field::stands_for;
+use job_field::units;
 use job_field::wide;
 use moment::Closed;
 use report_write::write_totals;
@@ -36,8 +38,8 @@ fn answer_question(
     before: usize,
     out: usize,
 ) -> usize
-    requires { ⌜ Facing (now work) (now room) (c .size) (c .len) (c .joins) before out (questionSaid q) ⌝ }
-    ensures { λ end. ⌜ Answered (now (work .entry)) (now (room .entry)) (c .size) (c .len) before out (questionSaid q) (now (work .exit)) (now (room .exit)) end ⌝ }
+    requires { ⌜ Facing (now work) (now room) (headOf c) (c .len) (c .joins) before out (questionSaid q) ⌝ }
+    ensures { λ end. ⌜ Answered (now (work .entry)) (now (room .entry)) (headOf c) (c .len) before out (questionSaid q) (now (work .exit)) (now (room .exit)) end ⌝ }
 {
     match q {
         Query::Ask(s, t) => answer_ask(room, work, c, before, out, s, t),
@@ -54,8 +56,8 @@ fn answer_field(
     p: Spot,
     next: usize,
 ) -> Spot
-    requires { ⌜ Meeting (now work) (now room) (c .size) (c .len) (c .joins) (p .out) (p .before) (said field) ⌝ }
-    ensures { λ r. ⌜ Onward (now (work .entry)) (now (room .entry)) (c .size) (c .len) next (p .out) (p .before) (r .at) (r .out) (r .before) (now (work .exit)) (now (room .exit)) (said field) ⌝ }
+    requires { ⌜ Meeting (now work) (now room) (headOf c) (c .len) (c .joins) (p .out) (p .before) (said field) ⌝ }
+    ensures { λ r. ⌜ Onward (now (work .entry)) (now (room .entry)) (headOf c) (c .len) next (p .out) (p .before) (r .at) (r .out) (r .before) (now (work .exit)) (now (room .exit)) (said field) ⌝ }
 {
     let out = p.out;
     let before = p.before;
@@ -74,7 +76,7 @@ fn answer_field(
             }
         }
         Field::Bad(_) => p,
-        Field::Header(_) => p,
+        Field::Header(_, _) => p,
         Field::End => p,
     }
 }
@@ -87,15 +89,15 @@ fn is_end(field: Field) -> bool
         Field::Noted(_) => false,
         Field::Posed(_) => false,
         Field::Bad(_) => false,
-        Field::Header(_) => false,
+        Field::Header(_, _) => false,
         Field::End => true,
     }
 }
 
 // All questions of the job; the place in the room behind the last answer.
 pub fn answer_all(job: &[u8], room: &mut [u8], work: &mut [u16], c: Closed) -> usize
-    requires { ⌜ Asking (now job) (now work) (c .size) (c .len) (c .joins) × (neededRoom (headIn (now job)) start (itemsIn (now job)) ≤ length (now room)) ⌝ }
-    ensures { λ end. ⌜ Told (now (job .entry)) (now (work .entry)) (now (room .entry)) (c .size) (c .len) (c .joins) (now (work .exit)) (now (room .exit)) end ⌝ }
+    requires { ⌜ Asking (now job) (now work) (headOf c) (c .len) (c .joins) × (neededRoom (headIn (now job)) start (itemsIn (now job)) ≤ length (now room)) ⌝ }
+    ensures { λ end. ⌜ Told (now (job .entry)) (now (work .entry)) (now (room .entry)) (headOf c) (c .len) (c .joins) (now (work .exit)) (now (room .exit)) end ⌝ }
 {
     let mut p = Spot {
         at: behind(job, 0),
@@ -118,9 +120,20 @@ pub fn respond(job: &[u8], room: &mut [u8], work: &mut [u16], size: usize, len: 
     requires { ⌜ Ready (now job) (now room) (now work) size len ⌝ }
     ensures { λ n. ⌜ Responded (now (job .entry)) (now (room .entry)) (now (work .entry)) (now (room .exit)) (now (work .exit)) n ⌝ }
 {
+    let unit = wide(units(job));
     let t = close(work, size, len);
     let joins = t.joins;
-    let end = answer_all(job, room, work, Closed { size, len, joins });
+    let end = answer_all(
+        job,
+        room,
+        work,
+        Closed {
+            size,
+            unit,
+            len,
+            joins,
+        },
+    );
     write_totals(room, end, size - joins, t.idle);
     end + 7
 }

@@ -6,12 +6,8 @@ use mathlib.Core.Path.{_≡_, refl}
 use mathlib.Core.List.{List, [], _∷_}
 use lib.ListN.{length, drop}
 use Rattle.meaning.specs.Following.{Rec, UpTo, Leader}
-use Rattle.meaning.proofs.Decide.{leader-one}
-use Rattle.job_field.specs.Items.{ask}
-use Rattle.table.specs.Map.{recordsIn}
-use Rattle.table.specs.Past.{Past, ageAfter}
-use Rattle.moment.specs.Meeting.{leaderAt}
-use Rattle.moment.proofs.Moments.{leader-after}
+use Rattle.meaning.proofs.Units.{leader-one}
+use Rattle.job_field.specs.Items.{Head, ask}
 use Rattle.report.specs.Report.{numbers, field, Answers, led, tabled, afterRecords}
 use Rattle.report.specs.Fault.{Stands, stands}
 use Rattle.report.proofs.Known.{stands-map}
@@ -34,12 +30,8 @@ found {P} report at h = go h refl
     go : {cs : List ℕ} → Stands P cs → drop at report ≡ cs → Found P report at
     go (stands {f} p bs) e = record { bytes = f; is = p; holds = holds-rest report at f bs e }
 
--- What the table says at the age of a moment is the leader of that moment.
-pub leads : {N len n : ℕ} {w : List ℕ} → Past N len w n → (R x a l : ℕ) → R ≤ len → a ≡ ageAfter w n R → l ≡ leaderAt w a x → Leader (UpTo (recordsIn len w) R) x l
-leads {N} {len} {n} {w} P R x a l k e f = rw (f, e) (leader-after P R k x)
-
 -- An ask has one right field.
-ask-field : {N : ℕ} {rs : List Rec} {R s t l m : ℕ} {f : List ℕ} → Leader (UpTo rs R) s l → Leader (UpTo rs R) t m → Answers (tabled N rs) (afterRecords R) (ask s t) f → f ≡ field 131 (numbers (l ∷ m ∷ []))
+ask-field : {H : Head} {rs : List Rec} {R s t l m : ℕ} {f : List ℕ} → Leader (H .units) (UpTo rs R) s l → Leader (H .units) (UpTo rs R) t m → Answers (tabled H rs) (afterRecords R) (ask s t) f → f ≡ field 131 (numbers (l ∷ m ∷ []))
 ask-field h k (led h′ k′) = rw (leader-one h′ h, leader-one k′ k)
 
 length-pair : (kind a b : ℕ) → length (field kind (numbers (a ∷ b ∷ []))) ≡ 7
@@ -48,11 +40,11 @@ length-pair kind a b = omega (arith, length-field kind (numbers (a ∷ b ∷ [])
 pub pair-room : (report : List ℕ) (at kind a b : ℕ) → at ≤ length report → Holds report at (field kind (numbers (a ∷ b ∷ []))) → at + 7 ≤ length report
 pair-room report at kind a b l h = omega (arith, holds-room report at (field kind (numbers (a ∷ b ∷ []))) l h, length-pair kind a b)
 
-module _ {N : ℕ} {rs : List Rec} {R s t l m : ℕ} (h : Leader (UpTo rs R) s l) (k : Leader (UpTo rs R) t m) (report : List ℕ) (at : ℕ) where
-  pub led-right : Holds report at (field 131 (numbers (l ∷ m ∷ []))) → RightAt (Answers (tabled N rs) (afterRecords R) (ask s t)) report at (To (at + 7))
+module _ {H : Head} {rs : List Rec} {R s t l m : ℕ} (h : Leader (H .units) (UpTo rs R) s l) (k : Leader (H .units) (UpTo rs R) t m) (report : List ℕ) (at : ℕ) where
+  pub led-right : Holds report at (field 131 (numbers (l ∷ m ∷ []))) → RightAt (Answers (tabled H rs) (afterRecords R) (ask s t)) report at (To (at + 7))
   led-right g = to {p = at + 7} (led h k) g (omega (arith, length-pair 131 l m))
 
-  pub led-wrong : (Holds report at (field 131 (numbers (l ∷ m ∷ []))) → ⊥) → RightAt (Answers (tabled N rs) (afterRecords R) (ask s t)) report at Wrong
+  pub led-wrong : (Holds report at (field 131 (numbers (l ∷ m ∷ []))) → ⊥) → RightAt (Answers (tabled H rs) (afterRecords R) (ask s t)) report at Wrong
   led-wrong g = wrong (λ x. let r = found report at x in g (rw (ask-field h k (r .is)) at (r .holds)))
 
 -- A place that is right by one measure is right by another that calls the same fields right.

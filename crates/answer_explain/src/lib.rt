@@ -1,6 +1,7 @@
 // The answer to an explain as a field of the report, by the joins that were made before the question. Document 01, "Reasons" and "The job and
 // the report". Rests on moment, answer_ask, reason, report_write and report_numbers.
 ghost use Rattle.job_field.specs.Items.{explain as explains};
+ghost use Rattle.moment.specs.Posed.{headOf};
 ghost use Rattle.answer_ask.specs.Facing.{Facing, Answered};
 use meaning::Tag;
 use moment::Closed;
@@ -19,8 +20,8 @@ pub fn answer_explain(
     s: Tag,
     t: Tag,
 ) -> usize
-    requires { ⌜ Facing (now work) (now room) (c .size) (c .len) (c .joins) before out (explains (s .0) (t .0)) ⌝ }
-    ensures { λ end. ⌜ Answered (now (work .entry)) (now (room .entry)) (c .size) (c .len) before out (explains (s .0) (t .0)) (now (work .exit)) (now (room .exit)) end ⌝ }
+    requires { ⌜ Facing (now work) (now room) (headOf c) (c .len) (c .joins) before out (explains (s .0) (t .0)) ⌝ }
+    ensures { λ end. ⌜ Answered (now (work .entry)) (now (room .entry)) (headOf c) (c .len) before out (explains (s .0) (t .0)) (now (work .exit)) (now (room .exit)) end ⌝ }
 {
     match explain(work, c.size, c.len, c.joins, before, s, t) {
         Answer::Because(count) => {

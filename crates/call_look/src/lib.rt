@@ -56,6 +56,7 @@ fn view(job: &[u8]) -> Sight
         },
         Read::Accepted {
             size,
+            units: _,
             records,
             questions: _,
             room,

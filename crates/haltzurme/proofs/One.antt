@@ -8,7 +8,7 @@ use mathlib.Core.Logic.{_⊎_, inl, inr}
 use mathlib.Core.List.{List, [], _∷_, _++_}
 use lib.ListN.{length, getD, drop}
 use Rattle.meaning.specs.Following.{UpTo, Leader}
-use Rattle.meaning.proofs.Decide.{leader-one}
+use Rattle.meaning.proofs.Units.{leader-one}
 use Rattle.meaning.proofs.Laws.{classes-one, idles-one, reason-follows}
 use Rattle.meaning.specs.Limits.{namedNumbers, namedPlaces}
 use Rattle.job_field.specs.Items.{Head, Matter, matterOf, Moment, start, after, ask, Item, posed, Reading, refused, accepted, neededRoom}
@@ -39,7 +39,7 @@ blanked-one {t} {a} {b} c d = list-one blank namedPlaces b a (c .size ∙ sym (d
 totalled-one : {M : Matter} {f g : List ℕ} → Totalled M f → Totalled M g → f ≡ g
 totalled-one (total c i) (total d j) = ap₂ (λ (x y : ℕ). field 143 (numbers (x ∷ y ∷ []))) (classes-one c d) (idles-one i j)
 
-led-alike : {M : Matter} {b : Moment} {s t l m l′ m′ : ℕ} {is : List Item} {bs bs′ : List ℕ} → Leader (UpTo (M .records) (b .records)) s l′ → Leader (UpTo (M .records) (b .records)) t m′
+led-alike : {M : Matter} {b : Moment} {s t l m l′ m′ : ℕ} {is : List Item} {bs bs′ : List ℕ} → Leader (M .head .units) (UpTo (M .records) (b .records)) s l′ → Leader (M .head .units) (UpTo (M .records) (b .records)) t m′
     → l ≡ l′ → m ≡ m′ → Alike M (after (posed (ask s t)) b) is bs bs′
     → Alike M b (posed (ask s t) ∷ is) (field 131 (numbers (l ∷ m ∷ [])) ++ bs) (field 131 (numbers (l′ ∷ m′ ∷ [])) ++ bs′)
 led-alike h k p q a = rw (p, q) (alike.answered (led h k) a)

@@ -9,7 +9,7 @@ use lib.Dec.{eqb, ltb, leb}
 use lib.ListN.{length}
 use Rattle.meaning.specs.Following.{eq, app}
 use Rattle.job_field.specs.Items.{Head, unsized, Moment, start, after, line, ask, explain, noted, posed, Item, tagsOf, Reading, refused, accepted}
-use Rattle.job_field.specs.Reading.{Kind, first, unknown, Field, bad, header, item, end, known, lengthAt, behindAt, bodyLength, bodyAt, orElse, ofKind, fieldAt, kindAt, byteAt, checked, counted, sized, fieldTags, tagged, with, behind, onward, readFrom, reading}
+use Rattle.job_field.specs.Reading.{Kind, first, first-units, unknown, Field, bad, header, item, end, known, lengthAt, behindAt, bodyLength, bodyAt, orElse, ofKind, fieldAt, kindAt, byteAt, checked, counted, sized, fieldTags, tagged, with, behind, onward, readFrom, reading}
 use Rattle.job_field.proofs.Reading.{body-later}
 
 -- The numbers of document 01's table, and those of tags.
@@ -29,13 +29,14 @@ or-bad P false k m f r h e = let q : k ≡ m = cc in rw (← q) r
 abbrev pub Early : ℕ → Type 0
 Early n = (3 ≤ n) × (n ≤ 5)
 
--- The first field's kind says N or nothing, and no later kind says anything else that is refused than 4.
-body-bad : (job : List ℕ) (at m : ℕ) → bodyAt job (at + 3) (kindAt at (byteAt job at)) ≡ bad m → Early m
-body-bad job zero m e = go (eqb (byteAt job 0) 16) e
+-- The first field's kinds say N and U or nothing, and no later kind says anything else that is refused than 4.
+body-bad : (job : List ℕ) (at m : ℕ) → bodyAt job (at + 3) (kindAt at (byteAt job at) (lengthAt job at)) ≡ bad m → Early m
+body-bad job zero m e = go (eqb (byteAt job 0) 16) (eqb (lengthAt job 0) 4) e
   where
-    go : (p : Bool) → bodyAt job 3 (cond p first unknown) ≡ bad m → Early m
-    go true e = let z : _≡_ {A = ℕ} 0 1 = cc in absurd (omega arith)
-    go false e = let q : 4 ≡ m = cc in rw (← q) (omega arith, omega arith)
+    go : (p q : Bool) → bodyAt job 3 (cond p (cond q first-units first) unknown) ≡ bad m → Early m
+    go true true e = let z : _≡_ {A = ℕ} 0 1 = cc in absurd (omega arith)
+    go true false e = let z : _≡_ {A = ℕ} 0 1 = cc in absurd (omega arith)
+    go false r e = let q : 4 ≡ m = cc in rw (← q) (omega arith, omega arith)
 body-bad job (suc n) m e = let q : m ≡ 4 = body-later job (suc n) (bad m) (omega arith) e in rw q (omega arith, omega arith)
 
 kind-bad : (job : List ℕ) (at m : ℕ) (k : Kind) → (bodyAt job (at + 3) k ≡ bad m → Early m) → ofKind job at k ≡ bad m → Early m
@@ -46,7 +47,7 @@ kind-bad job at m k h =
 
 pub field-bad : (job : List ℕ) (at m : ℕ) → fieldAt job at ≡ bad m → Early m
 unfolding fieldAt
-field-bad job at m = or-bad Early (leb (at + 3) (length job)) 3 m _ (omega arith, omega arith) (kind-bad job at m (kindAt at (byteAt job at)) (body-bad job at m))
+field-bad job at m = or-bad Early (leb (at + 3) (length job)) 3 m _ (omega arith, omega arith) (kind-bad job at m (kindAt at (byteAt job at) (lengthAt job at)) (body-bad job at m))
 
 -- The tags of an item are three at most.
 pub tags-few : (f : Field) → length (fieldTags f) ≤ 3

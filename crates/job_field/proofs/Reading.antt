@@ -9,9 +9,10 @@ use mathlib.Core.List.{List, [], _∷_}
 use borrow.Author.Tests.{ltb-true, leb-true, lt-leb, ne-eqb}
 use lib.Dec.{eqb, ltb, leb}
 use lib.ListN.{length}
+use Rattle.meaning.specs.Limits.{mostTags}
 use Rattle.job_field.specs.Items.{Head, Moment, start, after, Item, Reading, refused, accepted}
 use Rattle.job_field.specs.Standing.{Below}
-use Rattle.job_field.specs.Reading.{Kind, record-eq, record-app, question-ask, question-explain, last, Field, bad, header, item, end, known, bodyLength, bodyAt, laterKind, kindAt, byteAt, lengthAt, behindAt, orElse, ofKind, fieldAt, counted, sized, fieldTags, tagged, checked, with, behind, onward, readFrom}
+use Rattle.job_field.specs.Reading.{Kind, record-eq, record-app, question-ask, question-explain, last, Field, bad, header, item, end, known, bodyLength, bodyAt, laterKind, kindAt, byteAt, lengthAt, behindAt, orElse, ofKind, fieldAt, counted, sizeRight, sized, fieldTags, tagged, checked, with, behind, onward, readFrom}
 
 -- A field that is not refused.
 abbrev pub Sound : Field → Type 0
@@ -49,16 +50,16 @@ checked-passed H b f g s e =
 
 -- Such a field stands whole in the job.
 pub record Whole (job : List ℕ) (at : ℕ) (g : Field) : Type 0 where
-  pub kind : known (kindAt at (byteAt job at)) ≡ true
+  pub kind : known (kindAt at (byteAt job at) (lengthAt job at)) ≡ true
   pub there : behindAt job at ≤ length job
-  pub is : bodyAt job (at + 3) (kindAt at (byteAt job at)) ≡ g
+  pub is : bodyAt job (at + 3) (kindAt at (byteAt job at) (lengthAt job at)) ≡ g
 
 pub field-passed : (job : List ℕ) (at : ℕ) (g : Field) → Sound g → fieldAt job at ≡ g → Whole job at g
 unfolding fieldAt
 field-passed job at g s e = go (orElse-passed _ _ _ g s e)
   where
     k : Kind
-    k = kindAt at (byteAt job at)
+    k = kindAt at (byteAt job at) (lengthAt job at)
 
     go : (leb (at + 3) (length job) ≡ true) × (ofKind job at k ≡ g) → Whole job at g
     go (h, e′) = kinds (orElse-passed _ _ _ g s e′)
@@ -92,7 +93,7 @@ later-says job at b = or (eqb b 1) record-eq tt (or (eqb b 2) record-app tt (or 
     or true k h i = record { says = h }
     or false k h i = i
 
-pub body-later : (job : List ℕ) (at : ℕ) (g : Field) → 0 < at → bodyAt job (at + 3) (kindAt at (byteAt job at)) ≡ g → NotFirst g
+pub body-later : (job : List ℕ) (at : ℕ) (g : Field) → 0 < at → bodyAt job (at + 3) (kindAt at (byteAt job at) (lengthAt job at)) ≡ g → NotFirst g
 body-later job at g h e = subst NotFirst (rw (ne-eqb at 0 (omega arith)) at e) (later-says job (at + 3) (byteAt job at) .says)
 
 -- So N stands in the first field and nowhere else.
@@ -129,6 +130,14 @@ read-sized (suc n) job H b at h = go (λ b′ k. read-sized n job H b′ (at + k
 pub and-true : (a b : Bool) → (a && b) ≡ true → (a ≡ true) × (b ≡ true)
 and-true true b e = (refl, e)
 and-true false b e = let z : _≡_ {A = ℕ} 0 1 = cc in absurd (omega arith)
+
+-- N and U that were tested are in range.
+pub size-right : (H : Head) → sizeRight H ≡ true → (1 ≤ H .size) × (H .size ≤ mostTags) × (H .units ≤ H .size)
+size-right H e =
+    let p = and-true (ltb 0 (H .size)) (leb (H .size) mostTags && leb (H .units) (H .size)) e in
+    let q = and-true (leb (H .size) mostTags) (leb (H .units) (H .size)) (p .1) in
+    let low : 0 < H .size = ltb-true 0 (H .size) (p .0) in
+    (omega arith, leb-true (H .size) mostTags (q .0), leb-true (H .units) (H .size) (q .1))
 
 -- Beyond the job nothing is read.
 field-beyond : (job : List ℕ) (at : ℕ) → length job < at → fieldAt job at ≡ bad 3

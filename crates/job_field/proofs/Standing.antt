@@ -9,12 +9,12 @@ use mathlib.Core.List.{List, [], _∷_}
 use borrow.Author.Tests.{ltb-true, leb-true}
 use lib.Dec.{eqb, ltb, leb}
 use lib.ListN.{length}
-use Rattle.meaning.specs.Limits.{mostQuestions, mostRecords, mostTags}
+use Rattle.meaning.specs.Limits.{mostQuestions, mostRecords}
 use Rattle.job_field.specs.Items.{Head, unsized, headOf, itemsOf, Moment, start, after, Item, noted, posed, standsFor, Reading, refused, accepted, recordsOf, questionsOf}
-use Rattle.job_field.specs.Reading.{Field, bad, header, item, end, fieldAt, byteAt, firstKind, bodyAt, behindAt, checked, counted, with, behind, onward, readFrom, reading, headIn, itemsIn, first, unknown}
+use Rattle.job_field.specs.Reading.{Field, bad, header, item, end, fieldAt, byteAt, lengthAt, firstKind, bodyAt, behindAt, checked, counted, with, behind, onward, readFrom, reading, headIn, itemsIn, first, first-units, unknown}
 use Rattle.job_field.specs.Standing.{Few, Stands, ends, next, Job, Met}
 use Rattle.job_field.proofs.Items.{after-records, after-questions}
-use Rattle.job_field.proofs.Reading.{Passed, checked-passed, field-whole, field-passed, header-first, and-true}
+use Rattle.job_field.proofs.Reading.{Passed, checked-passed, field-whole, field-passed, header-first, and-true, size-right}
 
 -- What is read behind the first field, where it is accepted.
 record Rest (job : List ℕ) (H : Head) (b : Moment) (at : ℕ) (M : Head) (items : List Item) : Type 0 where
@@ -89,23 +89,25 @@ module _ (job : List ℕ) (H : Head) where
           })
 
 -- The first field is no end field.
-first-body : (job : List ℕ) (at b : ℕ) → bodyAt job at (firstKind b) ≡ end → ⊥
-first-body job at b e = go (eqb b 16) e
+first-body : (job : List ℕ) (at b n : ℕ) → bodyAt job at (firstKind b n) ≡ end → ⊥
+first-body job at b n e = go (eqb b 16) (eqb n 4) e
   where
-    go : (c : Bool) → bodyAt job at (cond c first unknown) ≡ end → ⊥
-    go true e = let z : _≡_ {A = ℕ} 0 1 = cc in omega arith
-    go false e = let z : _≡_ {A = ℕ} 0 1 = cc in omega arith
+    go : (c d : Bool) → bodyAt job at (cond c (cond d first-units first) unknown) ≡ end → ⊥
+    go true true e = let z : _≡_ {A = ℕ} 0 1 = cc in omega arith
+    go true false e = let z : _≡_ {A = ℕ} 0 1 = cc in omega arith
+    go false d e = let z : _≡_ {A = ℕ} 0 1 = cc in omega arith
 
 no-end-first : (job : List ℕ) → fieldAt job 0 ≡ end → ⊥
-no-end-first job e = first-body job 3 (byteAt job 0) (field-passed job 0 end tt e .is)
+no-end-first job e = first-body job 3 (byteAt job 0) (lengthAt job 0) (field-passed job 0 end tt e .is)
 
 -- No item stands at 0.
 pub no-item-first : (job : List ℕ) (i : Item) → fieldAt job 0 ≡ item i → ⊥
-no-item-first job i e = go (eqb (byteAt job 0) 16) (field-passed job 0 (item i) tt e .is)
+no-item-first job i e = go (eqb (byteAt job 0) 16) (eqb (lengthAt job 0) 4) (field-passed job 0 (item i) tt e .is)
   where
-    go : (c : Bool) → bodyAt job 3 (cond c first unknown) ≡ item i → ⊥
-    go true e = let z : _≡_ {A = ℕ} 0 1 = cc in omega arith
-    go false e = let z : _≡_ {A = ℕ} 0 1 = cc in omega arith
+    go : (c d : Bool) → bodyAt job 3 (cond c (cond d first-units first) unknown) ≡ item i → ⊥
+    go true true e = let z : _≡_ {A = ℕ} 0 1 = cc in omega arith
+    go true false e = let z : _≡_ {A = ℕ} 0 1 = cc in omega arith
+    go false d e = let z : _≡_ {A = ℕ} 0 1 = cc in omega arith
 
 -- On an accepted job the cursor meets exactly the items, in order: N first, then behind it the items, the end field, and nothing.
 pub accepted-stands : (job : List ℕ) (H : Head) (items : List Item) → reading job ≡ accepted H items → Job job H items
@@ -116,11 +118,9 @@ accepted-stands job H items e = go (checked unsized start (fieldAt job 0)) refl 
     go (bad m) c e = let z : _≡_ {A = ℕ} 0 1 = cc in absurd (omega arith)
     go (header M) c e =
         let p : Passed unsized start (fieldAt job 0) (header M) = checked-passed unsized start (fieldAt job 0) (header M) tt c in
-        let t = and-true (ltb 0 (M .size)) (leb (M .size) mostTags) (p .number) in
+        let t = size-right M (p .number) in
         let v : Rest job M start (behindAt job 0) H items = rest job M (length job) start (behindAt job 0) H items (omega arith) start-few e in
-        let low : 0 < M .size = ltb-true 0 (M .size) (t .0) in
-        let high : M .size ≤ mostTags = leb-true (M .size) mostTags (t .1) in
-        rw (v .size) (record { some = omega arith; most = high; records = omega (arith, v .records); questions = omega (arith, v .questions); first = p .is; stands = v .stands })
+        rw (v .size) (record { some = t .0; most = t .1; units = t .2; records = omega (arith, v .records); questions = omega (arith, v .questions); first = p .is; stands = v .stands })
     go (item i) c e = absurd (no-item-first job i (checked-passed unsized start (fieldAt job 0) (item i) tt c .is))
     go end c e = absurd (no-end-first job (checked-passed unsized start (fieldAt job 0) end tt c .is))
 

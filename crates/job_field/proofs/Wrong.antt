@@ -10,7 +10,7 @@ use borrow.Author.Tests.{ltb-true, ltb-false}
 use lib.Dec.{ltb, leb}
 use lib.ListN.{length}
 use Rattle.job_field.specs.Items.{Head, unsized, Moment, start, after, Item, tagsOf, Reading, refused, accepted}
-use Rattle.job_field.specs.Reading.{Kind, first, record-eq, record-app, question-ask, question-explain, last, unknown, Field, bad, header, item, end, numberAt, byteAt, bodyAt, kindAt, behindAt, orElse, fieldAt, counted, sized, fieldTags, tagged, checked, offsetOf, behind, onward, readFrom, reading}
+use Rattle.job_field.specs.Reading.{Kind, first, first-units, record-eq, record-app, question-ask, question-explain, last, unknown, Field, bad, header, item, end, numberAt, byteAt, lengthAt, bodyAt, kindAt, behindAt, orElse, fieldAt, counted, sized, fieldTags, tagged, checked, offsetOf, behind, onward, readFrom, reading}
 use Rattle.job_field.specs.Wrong.{Wrong}
 use Rattle.job_field.proofs.Reading.{field-passed, checked-passed, header-first}
 use Rattle.job_field.proofs.Numbers.{or-bad, field-bad, tags-few, with-refused}
@@ -23,6 +23,7 @@ Listed job at (t ∷ ts) = (t ≡ numberAt job at) × Listed job (at + 2) ts
 
 body-tags : (job : List ℕ) (at : ℕ) (k : Kind) → Listed job at (fieldTags (bodyAt job at k))
 body-tags job at first = tt
+body-tags job at first-units = tt
 body-tags job at record-eq = (refl, (refl, tt))
 body-tags job at record-app = let e : at + 2 + 2 ≡ at + 4 = omega arith in (refl, (refl, (rw e, tt)))
 body-tags job at question-ask = (refl, (refl, tt))
@@ -31,7 +32,7 @@ body-tags job at last = tt
 body-tags job at unknown = tt
 
 field-tags : (job : List ℕ) (at : ℕ) (i : Item) → fieldAt job at ≡ item i → Listed job (at + 3) (tagsOf i)
-field-tags job at i e = subst (λ (f : Field). Listed job (at + 3) (fieldTags f)) (field-passed job at (item i) tt e .is) (body-tags job (at + 3) (kindAt at (byteAt job at)))
+field-tags job at i e = subst (λ (f : Field). Listed job (at + 3) (fieldTags f)) (field-passed job at (item i) tt e .is) (body-tags job (at + 3) (kindAt at (byteAt job at) (lengthAt job at)))
 
 -- The first of the numbers from a place on that is N or more, counted from nought.
 record First (job : List ℕ) (N at n count m : ℕ) : Type 0 where

@@ -3,7 +3,7 @@
 use Prim.Native.Nat.{ℕ}
 use Rattle.meaning.specs.Following.{eq, app}
 use Rattle.job_field.specs.Items.{Note, line, Question, noted, posed, ask, explain}
-use Rattle.job_field.specs.Reading.{Kind, first, record-eq, record-app, question-ask, question-explain, last, unknown, Field, bad, header, item, end}
+use Rattle.job_field.specs.Reading.{Kind, first, first-units, record-eq, record-app, question-ask, question-explain, last, unknown, Field, bad, header, item, end}
 use Rattle.job_field.specs.declared.Fault.{Fault}
 use Rattle.job_field.specs.declared.Fault.the-variants.{Cut, Misplaced, Misfit, OutOfRange, TooMany, Trailing, FirstTag, SecondTag, ThirdTag}
 use Rattle.job_field.specs.declared.Kind.{Kind as KindCode}
@@ -29,6 +29,7 @@ numberOf ThirdTag = 13
 
 abbrev pub kindOf : KindCode → Kind
 kindOf k.First = first
+kindOf k.Units = first-units
 kindOf k.Equal = record-eq
 kindOf k.Apply = record-app
 kindOf k.Asked = question-ask
@@ -48,7 +49,7 @@ questionSaid (Explain s t) = explain (s .0) (t .0)
 -- What a field of the code says.
 abbrev pub said : FieldCode → Field
 said (Bad f) = bad (numberOf f)
-said (Header n) = header (record { size = n })
+said (Header n u) = header (record { size = n; units = u })
 said (Noted l) = item (noted (noteSaid l))
 said (Posed q) = item (posed (questionSaid q))
 said End = end

@@ -5,9 +5,10 @@ use mathlib.Core.List.{List, [], _∷_, _++_}
 use lib.ListN.{length}
 use Rattle.meaning.specs.Following.{Rec, eq, app}
 
--- What the first field says: N.
+-- What the first field says: N and U, "where tags from U up are units" (document 02, No. 3).
 pub record Head : Type 0 where
   pub size : ℕ
+  pub units : ℕ
 
 -- What a job notes: a record (kinds 01 and 02).
 pub data Note : Type 0 where
@@ -37,9 +38,9 @@ abbrev pub itemsOf : Reading → List Item
 itemsOf (refused n p) = []
 itemsOf (accepted H is) = is
 
--- What the first field says: N is 0 where there is none to be read.
+-- What the first field says: N and U are 0 where there is none to be read.
 abbrev pub unsized : Head
-unsized = record { size = 0 }
+unsized = record { size = 0; units = 0 }
 
 abbrev pub headOf : Reading → Head
 headOf (refused n p) = unsized

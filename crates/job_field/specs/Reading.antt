@@ -1,5 +1,5 @@
 -- Document 01, "The job and the report" and "What is lent, and each refusal": the job is read front to back, one field at a time,
--- and every byte string is accepted or refused by number and place. Document 02, No. 2: which number was wrong.
+-- and every byte string is accepted or refused by number and place. Document 02, No. 2: which number was wrong; No. 3: a header with U.
 -- Assumes nothing.
 use Prim.Native.Nat.{ℕ, zero, suc, _+_, _*_}
 use mathlib.Core.Bool.{Bool, true, false, cond, _&&_}
@@ -19,7 +19,7 @@ numberAt job at = byteAt job at * 256 + byteAt job (at + 1)
 
 -- The kinds of the job's table, and one more for a byte that is no kind there.
 pub data Kind : Type 0 where
-  first record-eq record-app question-ask question-explain last unknown : Kind
+  first first-units record-eq record-app question-ask question-explain last unknown : Kind
 
 -- What a field says: nothing, with the number of its refusal; what the first field says; an item; that the job ends.
 pub data Field : Type 0 where
@@ -30,8 +30,9 @@ pub data Field : Type 0 where
 
 -- The job's table, line by line: the byte of each kind, the bytes of its body, and what its numbers say. The kind that a byte names:
 -- 10 hex (16) is the first field, once, so that it stands at 0 and nowhere else, and at 0 nothing else stands; 7F hex (127) is the end.
-abbrev pub firstKind : ℕ → Kind
-firstKind b = cond (eqb b 16) first unknown
+-- "Allow a header of length 4: N and U": the length that the first field states says which of its two kinds it is.
+abbrev pub firstKind : ℕ → ℕ → Kind
+firstKind b n = cond (eqb b 16) (cond (eqb n 4) first-units first) unknown
 
 abbrev pub laterKind : ℕ → Kind
 laterKind b =
@@ -41,12 +42,13 @@ laterKind b =
     (cond (eqb b 4) question-explain
     (cond (eqb b 127) last unknown))))
 
-abbrev pub kindAt : ℕ → ℕ → Kind
-kindAt at b = cond (eqb at 0) (firstKind b) (laterKind b)
+abbrev pub kindAt : ℕ → ℕ → ℕ → Kind
+kindAt at b n = cond (eqb at 0) (firstKind b n) (laterKind b)
 
--- The bytes of each kind's body: N; a, b; a, b, c; s, t; s, t; none.
+-- The bytes of each kind's body: N; N, U; a, b; a, b, c; s, t; s, t; none.
 abbrev pub bodyLength : Kind → ℕ
 bodyLength first = 2
+bodyLength first-units = 4
 bodyLength record-eq = 4
 bodyLength record-app = 6
 bodyLength question-ask = 4
@@ -54,9 +56,10 @@ bodyLength question-explain = 4
 bodyLength last = 0
 bodyLength unknown = 0
 
--- What a kind says with the numbers of its body, of which there are three at most.
+-- What a kind says with the numbers of its body, of which there are three at most. "A header of length 2 means U = N."
 abbrev pub says : Kind → ℕ → ℕ → ℕ → Field
-says first a b c = header (record { size = a })
+says first a b c = header (record { size = a; units = a })
+says first-units a b c = header (record { size = a; units = b })
 says record-eq a b c = item (noted (line (eq a b)))
 says record-app a b c = item (noted (line (app a b c)))
 says question-ask a b c = item (posed (ask a b))
@@ -67,6 +70,7 @@ says unknown a b c = bad 4
 -- Every kind of the table is known.
 abbrev pub known : Kind → Bool
 known first = true
+known first-units = true
 known record-eq = true
 known record-app = true
 known question-ask = true
@@ -99,7 +103,7 @@ ofKind job at k =
     (orElse (leb (behindAt job at) (length job)) 3 (bodyAt job (at + 3) k)))
 
 unfoldable pub fieldAt : List ℕ → ℕ → Field
-fieldAt job at = orElse (leb (at + 3) (length job)) 3 (ofKind job at (kindAt at (byteAt job at)))
+fieldAt job at = orElse (leb (at + 3) (length job)) 3 (ofKind job at (kindAt at (byteAt job at) (lengthAt job at)))
 
 -- The records that a note stands for are counted with those before it, and so is a question.
 abbrev pub counted : Moment → Field → Bool
@@ -109,9 +113,9 @@ counted b (item (noted n)) = leb (b .records + length (standsFor n)) mostRecords
 counted b (item (posed q)) = ltb (b .questions) mostQuestions
 counted b end = true
 
--- N is from 1 to 1,000.
+-- N is from 1 to 1,000, and U is not above N.
 abbrev pub sizeRight : Head → Bool
-sizeRight M = ltb 0 (M .size) && leb (M .size) mostTags
+sizeRight M = ltb 0 (M .size) && (leb (M .size) mostTags && leb (M .units) (M .size))
 
 abbrev pub sized : Field → Bool
 sized (bad n) = true
@@ -131,7 +135,7 @@ abbrev pub tagged : ℕ → ℕ → List ℕ → Field → Field
 tagged N n [] f = f
 tagged N n (t ∷ ts) f = orElse (ltb t N) n (tagged N (suc n) ts f)
 
--- The second half of the order: count limit (7); N (6); "11, 12, 13 for first, second and third tag, in 6's place in the order".
+-- The second half of the order: count limit (7); N and U (6); "11, 12, 13 for first, second and third tag, in 6's place in the order".
 unfoldable pub checked : Head → Moment → Field → Field
 checked H b f = orElse (counted b f) 7 (orElse (sized f) 6 (tagged (H .size) 11 (fieldTags f) f))
 
@@ -166,6 +170,13 @@ readFrom (suc n) job H b at = onward (readFrom n job) job H b at (checked H b (f
 unfoldable pub reading : List ℕ → Reading
 reading job = readFrom (suc (length job)) job unsized start 0
 
+-- U by a field: that of the first one, and 0 by any other.
+abbrev pub unitsOf : Field → ℕ
+unitsOf (bad n) = 0
+unitsOf (header H) = H .units
+unitsOf (item i) = 0
+unitsOf end = 0
+
 -- What its first field says, its items, and what its report is held against, as functions of the job's bytes.
 abbrev pub headIn : List ℕ → Head
 headIn job = headOf (reading job)
@@ -176,8 +187,8 @@ itemsIn job = itemsOf (reading job)
 abbrev pub matterIn : List ℕ → Matter
 matterIn job = matterOf (headIn job) (itemsIn job)
 
--- The longest job, 43,008 bytes: 5 + 36,000 + 7,000 + 3. Refusal 1 holds a job against it.
+-- The longest job, 43,010 bytes: 7 + 36,000 + 7,000 + 3. Refusal 1 holds a job against it.
 abbrev pub longest : List ℕ → ℕ
-longest job = 43008
+longest job = 43010
 
 -- The named places: 4,000 of the record table, 32,768 of the work table. Refusal 2 holds the tables against them.

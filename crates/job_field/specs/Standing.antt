@@ -29,6 +29,7 @@ pub record Few (b : Moment) : Type 0 where
 pub record Job (job : List ℕ) (H : Head) (items : List Item) : Type 0 where
   pub some : 1 ≤ H .size
   pub most : H .size ≤ mostTags
+  pub units : H .units ≤ H .size
   pub records : length (recordsOf items) ≤ mostRecords
   pub questions : questionsOf items ≤ mostQuestions
   pub first : fieldAt job 0 ≡ header H

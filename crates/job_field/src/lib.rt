@@ -4,7 +4,7 @@
 ghost use mathlib.Core.Path.{_≡_};
 ghost use Prim.Native.Nat.{_+_, _≤_};
 ghost use lib.ListN.{length};
-ghost use Rattle.job_field.specs.Reading.{byteAt, numberAt, kindAt, laterKind, known, bodyLength, says, bodyAt, behindAt, ofKind, fieldAt, offsetOf};
+ghost use Rattle.job_field.specs.Reading.{byteAt, numberAt, firstKind, kindAt, laterKind, known, bodyLength, says, bodyAt, lengthAt, behindAt, ofKind, fieldAt, unitsOf, offsetOf};
 ghost use Rattle.job_field.specs.Answer.{numberOf, kindOf, noteSaid, said};
 ghost use Rattle.job_field.specs.Items.{standsFor};
 use meaning::Tag;
@@ -17,7 +17,7 @@ pub enum Fault {
     Misplaced,
     // A wrong length for the kind.
     Misfit,
-    // N is 0 or above 1,000.
+    // N is 0 or above 1,000, or U is above N.
     OutOfRange,
     // The 4,001st record or the 1,001st question.
     TooMany,
@@ -66,6 +66,7 @@ pub fn offset_of(fault: Fault) -> usize
 // The kinds of a job's fields.
 pub enum Kind {
     First,
+    Units,
     Equal,
     Apply,
     Asked,
@@ -89,24 +90,25 @@ pub enum Query {
 // What stands at a place of a job. A new kind is a new `Line` or `Query`: here the cases stay these five.
 pub enum Field {
     Bad(Fault),
-    Header(u16),
+    // N and U: tags from U up are units.
+    Header(u16, u16),
     Noted(Line),
     Posed(Query),
     End,
 }
 
-// The kind that a byte names at a place: 10 hex stands first and nowhere else.
-fn kind_at(at: usize, byte: u8) -> Kind
-    ensures { λ r. ⌜ kindOf r ≡ kindAt at byte ⌝ }
+// The kind of the first field, which is 10 hex and nothing else: with U where its length is 4.
+fn first_kind(byte: u8, stated: u16) -> Kind
+    ensures { λ r. ⌜ kindOf r ≡ firstKind byte stated ⌝ }
 {
-    if at == 0 {
-        if byte == 0x10 {
-            Kind::First
+    if byte == 0x10 {
+        if stated == 4 {
+            Kind::Units
         } else {
-            Kind::Unknown
+            Kind::First
         }
     } else {
-        later_kind(byte)
+        Kind::Unknown
     }
 }
 
@@ -130,6 +132,7 @@ fn is_known(kind: Kind) -> bool
 {
     match kind {
         Kind::First => true,
+        Kind::Units => true,
         Kind::Equal => true,
         Kind::Apply => true,
         Kind::Asked => true,
@@ -145,6 +148,7 @@ fn body_length(kind: Kind) -> u16
 {
     match kind {
         Kind::First => 2,
+        Kind::Units => 4,
         Kind::Equal => 4,
         Kind::Apply => 6,
         Kind::Asked => 4,
@@ -181,6 +185,18 @@ fn number(job: &[u8], at: usize) -> u16
     high * 256 + low
 }
 
+// The kind at a place whose three bytes are there: 10 hex stands first and nowhere else.
+fn kind_at(job: &[u8], at: usize) -> Kind
+    requires { ⌜ at + 3 ≤ length (now job) ⌝ }
+    ensures { λ r. ⌜ kindOf r ≡ kindAt at (byteAt (now (job .entry)) at) (lengthAt (now (job .entry)) at) ⌝ }
+{
+    if at == 0 {
+        first_kind(byte(job, at), number(job, at + 1))
+    } else {
+        later_kind(byte(job, at))
+    }
+}
+
 // What a kind says with the numbers of its body: here they become tags.
 fn meant(kind: Kind, a: u16, b: u16, c: u16) -> Field
     ensures { λ r. ⌜ said r ≡ says (kindOf kind) a b c ⌝ }
@@ -189,7 +205,8 @@ fn meant(kind: Kind, a: u16, b: u16, c: u16) -> Field
     let y = Tag::of(b);
     let z = Tag::of(c);
     match kind {
-        Kind::First => Field::Header(a),
+        Kind::First => Field::Header(a, a),
+        Kind::Units => Field::Header(a, b),
         Kind::Equal => Field::Noted(Line::Equation(x, y)),
         Kind::Apply => Field::Noted(Line::Application(x, y, z)),
         Kind::Asked => Field::Posed(Query::Ask(x, y)),
@@ -251,7 +268,7 @@ pub fn field_at(job: &[u8], at: usize) -> Field
     if job.len() - 3 < at {
         return Field::Bad(Fault::Cut);
     }
-    of_kind(job, at, kind_at(at, job[at]))
+    of_kind(job, at, kind_at(job, at))
 }
 
 // The place behind a field: its three bytes and as many as it states further on.
@@ -280,4 +297,24 @@ pub fn read(job: &[u8], at: usize) -> Field
     ensures { λ r. ⌜ said r ≡ fieldAt (now (job .entry)) at ⌝ }
 {
     next(Reader { job, at })
+}
+
+// U by a field: that of the first one, and 0 by any other.
+fn units_of(field: Field) -> u16
+    ensures { λ r. ⌜ r ≡ unitsOf (said field) ⌝ }
+{
+    match field {
+        Field::Bad(_) => 0,
+        Field::Header(_, u) => u,
+        Field::Noted(_) => 0,
+        Field::Posed(_) => 0,
+        Field::End => 0,
+    }
+}
+
+// U by the first field of a job: tags from it up are units.
+pub fn units(job: &[u8]) -> u16
+    ensures { λ r. ⌜ r ≡ unitsOf (fieldAt (now (job .entry)) 0) ⌝ }
+{
+    units_of(read(job, 0))
 }

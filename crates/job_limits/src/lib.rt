@@ -1,14 +1,13 @@
-// The limits of a field: at most 4,000 records and 1,000 questions (7), N from 1 to 1,000 (6) and tags below N (11, 12, 13). Document 01, "What is lent,
-// and each refusal", the second half of its order for a field, and document 02, No. 2. Here the tags of a job are compared with N. Rests on meaning and job_field.
+// The limits of a field: at most 4,000 records and 1,000 questions (7), N from 1 to 1,000 with U up to it (6) and tags below N (11, 12, 13). Document 01, "What is lent,
+// and each refusal", the second half of its order for a field, and document 02, No. 2 and 3. Here the tags of a job are compared with N. Rests on meaning and job_field.
 ghost use mathlib.Core.Path.{_≡_};
 ghost use mathlib.Core.Bool.{_&&_};
 ghost use lib.Dec.{ltb, leb};
-ghost use Rattle.meaning.specs.Limits.{mostTags};
-ghost use Rattle.job_field.specs.Reading.{orElse, counted, sized, fieldTags, tagged, checked};
+ghost use Rattle.job_field.specs.Reading.{orElse, counted, sizeRight, sized, fieldTags, tagged, checked};
 ghost use Rattle.job_field.specs.Answer.{numberOf, noteSaid, questionSaid, said};
 ghost use Rattle.job_field.specs.Items.{noted, posed, after, tagsOfNote, tagsOfQuestion};
 ghost use Rattle.job_field.specs.Standing.{Few};
-ghost use Rattle.job_limits.specs.Counts.{momentOf};
+ghost use Rattle.job_limits.specs.Counts.{headOf, momentOf};
 ghost use Rattle.job_limits.specs.Tags.{tagsIn};
 use job_field::Fault;
 use job_field::Field;
@@ -24,6 +23,12 @@ const MOST_RECORDS: usize = meaning::MOST_RECORDS;
 const MOST_QUESTIONS: u16 = meaning::MOST_QUESTIONS as u16;
 
 const MOST_TAGS: u16 = meaning::MOST_TAGS as u16;
+
+// What the first field said, N and U; both are 0 before it.
+pub struct Top {
+    pub size: u16,
+    pub units: u16,
+}
 
 // What stands before a field: so many records and questions.
 pub struct Counts {
@@ -58,17 +63,22 @@ fn is_counted(c: Counts, field: Field) -> bool
 {
     match field {
         Field::Bad(_) => true,
-        Field::Header(_) => true,
+        Field::Header(_, _) => true,
         Field::Noted(l) => wide(c.records) + wide(stands_for(l)) <= MOST_RECORDS,
         Field::Posed(_) => c.questions < MOST_QUESTIONS,
         Field::End => true,
     }
 }
 
-fn is_size(n: u16) -> bool
-    ensures { λ r. ⌜ r ≡ (ltb 0 n && leb n mostTags) ⌝ }
+// N is from 1 to 1,000, and U not above it.
+fn is_size(n: u16, u: u16) -> bool
+    ensures { λ r. ⌜ r ≡ sizeRight (record { size = n; units = u }) ⌝ }
 {
-    if 0 < n { n <= MOST_TAGS } else { false }
+    if 0 < n {
+        if n <= MOST_TAGS { u <= n } else { false }
+    } else {
+        false
+    }
 }
 
 // Whether a tag is one of a job with so many.
@@ -109,20 +119,20 @@ fn tags_of(field: Field) -> Tags
 {
     match field {
         Field::Bad(_) => Tags::None,
-        Field::Header(_) => Tags::None,
+        Field::Header(_, _) => Tags::None,
         Field::Noted(l) => note_tags(l),
         Field::Posed(q) => question_tags(q),
         Field::End => Tags::None,
     }
 }
 
-// N from 1 to 1,000.
+// N from 1 to 1,000, with U up to it.
 fn is_sized(field: Field) -> bool
     ensures { λ r. ⌜ r ≡ sized (said field) ⌝ }
 {
     match field {
         Field::Bad(_) => true,
-        Field::Header(n) => is_size(n),
+        Field::Header(n, u) => is_size(n, u),
         Field::Noted(_) => true,
         Field::Posed(_) => true,
         Field::End => true,
@@ -165,11 +175,11 @@ fn tags_tested(size: u16, tags: Tags, field: Field) -> Field
     }
 }
 
-// A field with its count limit, N and its tags tested, in this order.
-pub fn allowed(size: u16, c: Counts, field: Field) -> Field
-    ensures { λ r. ⌜ said r ≡ checked (record { size = size }) (momentOf c) (said field) ⌝ }
+// A field with its count limit, N and U, and its tags tested, in this order.
+pub fn allowed(top: Top, c: Counts, field: Field) -> Field
+    ensures { λ r. ⌜ said r ≡ checked (headOf top) (momentOf c) (said field) ⌝ }
 {
-    let tested = tags_tested(size, tags_of(field), field);
+    let tested = tags_tested(top.size, tags_of(field), field);
     let few = is_counted(c, field);
     let low = is_sized(field);
     or_else(few, Fault::TooMany, or_else(low, Fault::OutOfRange, tested))

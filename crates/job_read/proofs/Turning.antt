@@ -4,18 +4,17 @@ use Prim.Native.Nat.{ℕ, zero, suc, _+_, _*_, _-_, _≤_, _<_, min}
 use native.Mathlib.Omega.{arith}
 use mathlib.Core.Path.{_≡_, refl, sym, _∙_, ap, subst}
 use mathlib.Core.List.{List}
-use borrow.Author.Tests.{leb-true}
-use lib.Dec.{ltb, leb}
 use lib.ListN.{length}
 use Rattle.meaning.specs.Limits.{mostTags}
 use Rattle.job_field.specs.Items.{Head, Note, Moment, start, after, Question, ask, explain, noted, posed, roomOf, Reading, refused, accepted, recordsOf, questionsOf, neededRoom}
 use Rattle.job_field.specs.Reading.{Field, bad, header, item, end, offsetOf, behindAt, fieldAt, checked, with, behind, onward, readFrom, reading}
 use Rattle.job_field.proofs.Items.{after-records, after-questions}
-use Rattle.job_field.proofs.Reading.{Sound, Passed, checked-passed, field-whole, Sized, read-sized, and-true}
+use Rattle.job_field.proofs.Reading.{Sound, Passed, checked-passed, field-whole, Sized, read-sized, size-right}
 use Rattle.job_field.specs.Standing.{Few}
 use Rattle.job_field.proofs.Standing.{start-few, after-few}
-use Rattle.job_limits.specs.Counts.{momentOf}
+use Rattle.job_limits.specs.Counts.{headOf, momentOf}
 use Rattle.job_limits.specs.declared.Counts.{Counts}
+use Rattle.job_limits.specs.declared.Top.{Top}
 use Rattle.job_read.specs.Summary.{refusal, summary, told}
 use Rattle.job_read.specs.Turns.{headSeen, tally, tallied, Going, Turned, on, done}
 use Rattle.job_read.specs.declared.Seen.{Seen}
@@ -63,26 +62,25 @@ module _ (job : List ℕ) (s : Seen) (h : Going job s) where
   pub there : (g : Field) → Sound g → Next job s g → behindAt job (s .at) ≤ length job
   there g v e = field-whole job (s .at) g v (checked-passed _ _ (fieldAt job (s .at)) g v e .is)
 
-  pub on-header : (M n : ℕ) → n ≡ behindAt job (s .at) → Next job s (header (record { size = M })) → Turned job s (On (record { at = n; size = M; counts = s .counts; room = s .room }))
+  pub on-header : (M : Top) (n : ℕ) → n ≡ behindAt job (s .at) → Next job s (header (headOf M)) → Turned job s (On (record { at = n; top = M; counts = s .counts; room = s .room }))
   on-header M n i e =
-      let p = checked-passed (headSeen s) (momentOf (s .counts)) (fieldAt job (s .at)) (header (record { size = M })) tt e in
-      let w : behindAt job (s .at) ≤ length job = there (header (record { size = M })) tt e in
-      let m : M ≤ mostTags = leb-true M mostTags (and-true (ltb 0 M) (leb M mostTags) (p .number) .1) in
-      rw i (on {t = record { at = behindAt job (s .at); size = M; counts = s .counts; room = s .room }} (omega arith) (record { within = w; size = m; few = h .few; room = h .room }) (λ fuel. step job s (header (record { size = M })) e fuel))
+      let p = checked-passed (headSeen s) (momentOf (s .counts)) (fieldAt job (s .at)) (header (headOf M)) tt e in
+      let w : behindAt job (s .at) ≤ length job = there (header (headOf M)) tt e in
+      rw i (on {t = record { at = behindAt job (s .at); top = M; counts = s .counts; room = s .room }} (omega arith) (record { within = w; size = size-right (headOf M) (p .number) .1; few = h .few; room = h .room }) (λ fuel. step job s (header (headOf M)) e fuel))
 
   pub on-note : (n : Note) (k : ℕ) (c : Counts) → k ≡ behindAt job (s .at) → momentOf c ≡ after (noted n) (momentOf (s .counts)) → Next job s (item (noted n))
-      → Turned job s (On (record { at = k; size = s .size; counts = c; room = s .room }))
+      → Turned job s (On (record { at = k; top = s .top; counts = c; room = s .room }))
   on-note n k c i j e =
       let p = checked-passed (headSeen s) (momentOf (s .counts)) (fieldAt job (s .at)) (item (noted n)) tt e in
       let w : behindAt job (s .at) ≤ length job = there (item (noted n)) tt e in
       let m : Few (momentOf c) = subst Few (sym j) (after-few (momentOf (s .counts)) (noted n) (h .few) (p .count)) in
       let q : c .questions ≡ s .counts .questions = ap (λ (x : Moment). x .questions) j in
-      rw i (on {t = record { at = behindAt job (s .at); size = s .size; counts = c; room = s .room }} (omega arith) (record { within = w; size = h .size; few = m; room = omega (arith, h .room) })
+      rw i (on {t = record { at = behindAt job (s .at); top = s .top; counts = c; room = s .room }} (omega arith) (record { within = w; size = h .size; few = m; room = omega (arith, h .room) })
       (λ fuel. step job s (item (noted n)) e fuel ∙ tally-note (momentOf (s .counts)) (s .room) n (readFrom fuel job (headSeen s) (after (noted n) (momentOf (s .counts))) (behindAt job (s .at)))
       ∙ ap (λ (x : Moment). tally x (s .room) (readFrom fuel job (headSeen s) x (behindAt job (s .at)))) (sym j)))
 
   pub on-question : (q : Question) (k room : ℕ) (c : Counts) → k ≡ behindAt job (s .at) → room ≡ roomOf (headSeen s) (momentOf (s .counts)) q → momentOf c ≡ after (posed q) (momentOf (s .counts)) → Next job s (item (posed q))
-      → Turned job s (On (record { at = k; size = s .size; counts = c; room = s .room + room }))
+      → Turned job s (On (record { at = k; top = s .top; counts = c; room = s .room + room }))
   on-question q k room c i z j e =
       let p = checked-passed (headSeen s) (momentOf (s .counts)) (fieldAt job (s .at)) (item (posed q)) tt e in
       let w : behindAt job (s .at) ≤ length job = there (item (posed q)) tt e in
@@ -90,7 +88,7 @@ module _ (job : List ℕ) (s : Seen) (h : Going job s) where
       let x : ℕ = roomOf (headSeen s) (momentOf (s .counts)) q in
       let l : x ≤ 4 * mostTags = room-most (headSeen s) (momentOf (s .counts)) q (h .size) in
       let y : c .questions ≡ s .counts .questions + 1 = ap (λ (x : Moment). x .questions) j in
-      rw (i, z) (on {t = record { at = behindAt job (s .at); size = s .size; counts = c; room = s .room + x }} (omega arith) (record { within = w; size = h .size; few = m; room = omega (arith, h .room, l) })
+      rw (i, z) (on {t = record { at = behindAt job (s .at); top = s .top; counts = c; room = s .room + x }} (omega arith) (record { within = w; size = h .size; few = m; room = omega (arith, h .room, l) })
       (λ fuel. step job s (item (posed q)) e fuel ∙ tally-question (headSeen s) (momentOf (s .counts)) (s .room) q (readFrom fuel job (headSeen s) (after (posed q) (momentOf (s .counts))) (behindAt job (s .at))) (read-sized fuel job (headSeen s) (after (posed q) (momentOf (s .counts))) (behindAt job (s .at)) (omega arith))
       ∙ ap (λ (x′ : Moment). tally x′ (s .room + x) (readFrom fuel job (headSeen s) x′ (behindAt job (s .at)))) (sym j)))
 
@@ -105,7 +103,7 @@ tally-none : (X : Reading) → summary X ≡ tally start 0 X
 tally-none (refused n p) = refl
 tally-none (accepted H is) = rw (none-plus (length (recordsOf is)), none-plus (questionsOf is), none-plus (neededRoom H start is))
 
-pub seeing-begin : (job : List ℕ) → Seeing job (record { at = 0; size = 0; counts = record { records = 0; questions = 0 }; room = 0 })
+pub seeing-begin : (job : List ℕ) → Seeing job (record { at = 0; top = record { size = 0; units = 0 }; counts = record { records = 0; questions = 0 }; room = 0 })
 unfolding reading
 seeing-begin job = record {
   fuel = suc (length job);

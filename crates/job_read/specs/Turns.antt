@@ -9,7 +9,7 @@ use Rattle.meaning.specs.Limits.{mostTags}
 use Rattle.job_field.specs.Items.{Head, Moment, Reading, refused, accepted, recordsOf, questionsOf, neededRoom}
 use Rattle.job_field.specs.Reading.{readFrom}
 use Rattle.job_field.specs.Standing.{Few}
-use Rattle.job_limits.specs.Counts.{momentOf}
+use Rattle.job_limits.specs.Counts.{headOf, momentOf}
 use Rattle.job_read.specs.declared.Answer.{Answer}
 use Rattle.job_read.specs.declared.Seen.{Seen}
 use Rattle.job_read.specs.declared.Turn.{Turn}
@@ -22,7 +22,7 @@ tally b room (refused n p) = refusal n p
 tally b room (accepted H is) = acceptance H (b .records + length (recordsOf is)) (b .questions + questionsOf is) (room + neededRoom H b is)
 
 abbrev pub headSeen : Seen → Head
-headSeen s = record { size = s .size }
+headSeen s = headOf (s .top)
 
 abbrev pub tallied : ℕ → List ℕ → Seen → Summary
 tallied fuel job s = tally (momentOf (s .counts)) (s .room) (readFrom fuel job (headSeen s) (momentOf (s .counts)) (s .at))
@@ -30,7 +30,7 @@ tallied fuel job s = tally (momentOf (s .counts)) (s .room) (readFrom fuel job (
 -- What has been seen stands within the job and within the limits.
 pub record Going (job : List ℕ) (s : Seen) : Type 0 where
   pub within : s .at ≤ length job
-  pub size : s .size ≤ mostTags
+  pub size : s .top .size ≤ mostTags
   pub few : Few (momentOf (s .counts))
   pub room : s .room ≤ (4 * mostTags) * s .counts .questions
 

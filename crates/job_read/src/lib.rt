@@ -7,7 +7,7 @@ ghost use Rattle.meaning.specs.Limits.{mostTags};
 ghost use Rattle.job_field.specs.Items.{roomOf};
 ghost use Rattle.job_field.specs.Answer.{questionSaid};
 ghost use Rattle.job_field.specs.Reading.{behind as behindEnd, behindAt, reading};
-ghost use Rattle.job_limits.specs.Counts.{momentOf};
+ghost use Rattle.job_limits.specs.Counts.{headOf, momentOf};
 ghost use Rattle.job_read.specs.Summary.{told, summary};
 ghost use Rattle.job_read.specs.Turns.{headSeen, tally, Going, Turned};
 use job_field::Fault;
@@ -17,6 +17,7 @@ use job_field::behind;
 use job_field::offset_of;
 use job_field::read;
 use job_limits::Counts;
+use job_limits::Top;
 use job_limits::allowed;
 use job_limits::past_note;
 use job_limits::past_question;
@@ -34,16 +35,17 @@ pub enum Answer {
     },
     Accepted {
         size: u16,
+        units: u16,
         records: u16,
         questions: u16,
         room: usize,
     },
 }
 
-// How far reading has come: the place of the next field, N (0 before the first field), and what has been counted.
+// How far reading has come: the place of the next field, what the first one said, and what has been counted.
 pub struct Seen {
     pub at: usize,
-    pub size: u16,
+    pub top: Top,
     pub counts: Counts,
     pub room: usize,
 }
@@ -76,11 +78,11 @@ fn most_numbers(size: u16, records: u16) -> usize
 }
 
 // The room that a question needs at its moment.
-fn room_of(size: u16, c: Counts, q: Query) -> usize
-    requires { ⌜ size ≤ mostTags ⌝ }
-    ensures { λ r. ⌜ (r ≡ roomOf (record { size = size }) (momentOf c) (questionSaid q)) × (r ≤ 4 * mostTags) ⌝ }
+fn room_of(top: Top, c: Counts, q: Query) -> usize
+    requires { ⌜ top .size ≤ mostTags ⌝ }
+    ensures { λ r. ⌜ (r ≡ roomOf (headOf top) (momentOf c) (questionSaid q)) × (r ≤ 4 * mostTags) ⌝ }
 {
-    let most = most_numbers(size, c.records);
+    let most = most_numbers(top.size, c.records);
     match q {
         Query::Ask(_, _) => ROOM_OF_ASK,
         Query::Explain(_, _) => 3 + 2 * most,
@@ -96,7 +98,8 @@ fn ended(job: &[u8], s: Seen) -> Answer
     let next = behind(job, s.at);
     if job.len() <= next {
         Answer::Accepted {
-            size: s.size,
+            size: s.top.size,
+            units: s.top.units,
             records: s.counts.records,
             questions: s.counts.questions,
             room: s.room + ROOM_OF_TOTALS,
@@ -115,31 +118,32 @@ fn advance(job: &[u8], s: Seen) -> Turn
     ensures { λ r. ⌜ Turned (now (job .entry)) s r ⌝ }
 {
     let at = s.at;
+    let top = s.top;
     let counts = s.counts;
     let next = behind(job, at);
-    let field = allowed(s.size, counts, read(job, at));
+    let field = allowed(top, counts, read(job, at));
     match field {
         Field::Bad(fault) => Turn::Done(Answer::Refused {
             fault,
             place: at + offset_of(fault),
         }),
-        Field::Header(n) => Turn::On(Seen {
+        Field::Header(size, units) => Turn::On(Seen {
             at: next,
-            size: n,
+            top: Top { size, units },
             counts,
             room: s.room,
         }),
         Field::Noted(l) => Turn::On(Seen {
             at: next,
-            size: s.size,
+            top,
             counts: past_note(counts, l),
             room: s.room,
         }),
         Field::Posed(q) => Turn::On(Seen {
             at: next,
-            size: s.size,
+            top,
             counts: past_question(counts, q),
-            room: s.room + room_of(s.size, counts, q),
+            room: s.room + room_of(top, counts, q),
         }),
         Field::End => Turn::Done(ended(job, s)),
     }
@@ -151,7 +155,7 @@ pub fn read_job(job: &[u8]) -> Answer
 {
     let mut s = Seen {
         at: 0,
-        size: 0,
+        top: Top { size: 0, units: 0 },
         counts: Counts {
             records: 0,
             questions: 0,

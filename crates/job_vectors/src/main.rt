@@ -39,6 +39,7 @@ fn answered(bytes: &[u8]) -> Verdict {
         },
         job_read::Answer::Accepted {
             size: _,
+            units: _,
             records: _,
             questions: _,
             room: _,
@@ -75,6 +76,7 @@ fn known(name: &[u8], bytes: &[u8]) {
         }
         job_read::Answer::Accepted {
             size: tags,
+            units: _,
             records,
             questions,
             room,
@@ -264,7 +266,7 @@ fn questions(room: &mut [u8]) -> usize {
     )
 }
 
-// The longest job, of 43,008 bytes with its end.
+// The longest job that states no U, of 43,008 bytes with its end.
 fn longest(room: &mut [u8]) -> usize {
     filled(
         room,

@@ -10,7 +10,7 @@ use Rattle.meaning.specs.Following.{UpTo}
 use Rattle.meaning.specs.Totals.{Classes, Idles}
 use Rattle.meaning.proofs.Laws.{classes-one, idles-one, classes-most, idles-most}
 use Rattle.job_field.specs.Items.{Head, Matter, Moment, start, after, Note, standsFor, Question, tagsOfQuestion, Item, noted, posed, recordsOf}
-use Rattle.job_field.specs.Reading.{behindAt, fieldAt, bad, header, item, end, headIn, itemsIn, matterIn}
+use Rattle.job_field.specs.Reading.{unitsOf, behindAt, fieldAt, bad, header, item, end, headIn, itemsIn, matterIn}
 use Rattle.job_field.specs.Standing.{Below, Met}
 use Rattle.job_field.proofs.Standing.{stands-item, stands-end, stands-not-bad, stands-not-header, stands-within}
 use Rattle.table.specs.Map.{recordsIn, Within}
@@ -30,7 +30,7 @@ use Rattle.judge.specs.declared.Turn.the-variants.{On, Done}
 use Rattle.judge.specs.Judging.{Judgeable, Verdict, sound, fault}
 use Rattle.answer_ask.specs.Right.{RightAt, to, wrong}
 use Rattle.judge.specs.Testing.{Testing, Tested}
-use Rattle.judge.specs.Ended.{Ended}
+use Rattle.judge.specs.Ended.{headOf, Ended}
 use Rattle.judge.specs.Ended as r
 use Rattle.judge.specs.Going.{Going, Turned, on, done, behind as turnBehind}
 use Rattle.answer_ask.proofs.Right.{found}
@@ -152,7 +152,7 @@ no-more : (l : List ℕ) → length l ≡ 0 → l ≡ []
 no-more [] e = refl
 no-more (x ∷ l) e = absurd (omega arith)
 
-module _ {M : Matter} {c i : ℕ} (h : Classes (M .head .size) (UpTo (M .records) (length (M .records))) c) (k : Idles (M .records) i) (report : List ℕ) (at : ℕ) where
+module _ (M : Matter) {c i : ℕ} (h : Classes (M .head .size) (UpTo (M .records) (length (M .records))) c) (k : Idles (M .records) i) (report : List ℕ) (at : ℕ) where
   abbrev f : List ℕ
   f = field 143 (numbers (c ∷ i ∷ []))
 
@@ -178,21 +178,21 @@ pub going-end : {job report w : List ℕ} {N len joins idle : ℕ} {s : Stand} �
 going-end {job} {report} {w} {N} {len} {joins} {idle} {s} J g e a h =
     let o = over g [] (stands-end job (headIn job .size) (s .at) (g .left) (g .stands) e) in
     let c : Classes (headIn job .size) (UpTo (recordsOf (itemsIn job)) (length (recordsOf (itemsIn job)))) (N - joins) = rw (J .size) (rw (J .count) at (J .classes)) in
-    done (whole o (verdict-end {M = matterIn job} c (J .idles) report (s .place) h))
+    done (whole o (verdict-end (matterIn job) c (J .idles) report (s .place) h))
   where
     whole : {b : Judgement} → Over job report s (g .moment) [] → Verdict (matterIn job) (g .moment) [] (s .place) (drop (s .place) report) b → Verdict (matterIn job) start (itemsIn job) 0 report b
     whole o (sound t) = sound (o .sound t)
     whole o (fault {p = p} t) = fault (o .fault p t)
 
 -- An item of the job as the code meets it.
-module _ {job report w : List ℕ} (c : Closed) (s : Stand) (J : Judgeable job w (c .size) (c .len) (c .joins) (c .idle)) (g : Going job report s) where
-  pub testing-there : (q : Question) → fieldAt job (s .at) ≡ item (posed q) → Testing report w (c .size) (c .len) (c .joins) (s .before) (s .place) q
-  testing-there q e = record { past = J .past; early = omega (arith, before-most g, J .count); tags = rw (J .size) at (item-tags g q e); within = g .within }
+module _ {job report w : List ℕ} (c : Closed) (s : Stand) (J : Judgeable job w (c .size) (c .len) (c .joins) (c .idle)) (g : Going job report s) (top : headIn job ≡ headOf c) where
+  pub testing-there : (q : Question) → fieldAt job (s .at) ≡ item (posed q) → Testing report w (headOf c) (c .len) (c .joins) (s .before) (s .place) q
+  testing-there q e = record { past = J .past; units = rw top at (J .accepted .units); early = omega (arith, before-most g, J .count); tags = rw (J .size) at (item-tags g q e); within = g .within }
 
   pub turn-question : (q : Question) (n : ℕ) → n ≡ behindAt job (s .at) → fieldAt job (s .at) ≡ item (posed q) → {w′ : List ℕ}
-      → (r : Passed) → Tested report w w′ (c .size) (c .len) (s .before) (s .place) q r → (t : Turn) → t ≡ turnBehind r n (s .place) (s .before) → Turned job report s t
+      → (r : Passed) → Tested report w w′ (headOf c) (c .len) (s .before) (s .place) q r → (t : Turn) → t ≡ turnBehind r n (s .place) (s .before) → Turned job report s t
   turn-question q n k e r h t z =
-      let known : Known (matterIn job) (g .moment) (c .size) (recordsIn (c .len) w) (s .before) = record { size = J .size; records = sym (J .held); before = g .passed } in
+      let known : Known (matterIn job) (g .moment) (headOf c) (recordsIn (c .len) w) (s .before) = record { head = top; records = sym (J .held); before = g .passed } in
       rw z (going-question g q n k e r (h .right (matterIn job) (g .moment) known))
 
   pub totals-fit : (s .place ≤ length report) × (c .size - c .joins < 65536) × (c .idle < 65536)
@@ -207,8 +207,13 @@ pub turned-done : {job report : List ℕ} {s : Stand} {a : Judgement} {r : Turn}
 turned-done (on l g) e = let z : _≡_ {A = ℕ} 0 1 = cc in absurd (omega arith)
 turned-done {a = a} (done {answer = b} v) e = let z : b ≡ a = cc in rw (← z) v
 
+-- U is read off the first field.
+pub head-read : {job w : List ℕ} {N len joins idle : ℕ} → Judgeable job w N len joins idle → (u : ℕ) → u ≡ unitsOf (fieldAt job 0) → headIn job ≡ record { size = N; units = u }
+head-read {job} J u e = let z : u ≡ headIn job .units = e ∙ ap unitsOf (J .accepted .first) in rw (z, ← J .size) refl
+
 -- What is known at each turn of the loop.
 pub record Judging (job report w₀ w : List ℕ) (c : Closed) (s : Stand) : Type 0 where
   pub kept : Within scratch w₀ w
   pub judgeable : Judgeable job w (c .size) (c .len) (c .joins) (c .idle)
+  pub top : headIn job ≡ headOf c
   pub going : Going job report s

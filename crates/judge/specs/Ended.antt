@@ -5,6 +5,7 @@ use mathlib.Core.Path.{_≡_}
 use mathlib.Core.List.{List, [], _∷_}
 use lib.ListN.{length}
 use Rattle.meaning.specs.declared.Tag.{Tag}
+use Rattle.job_field.specs.Items.{Head}
 use Rattle.report.specs.Report.{numbers, field}
 use Rattle.report_read.specs.Read.{Holds}
 use Rattle.moment.specs.declared.Question.{Question}
@@ -12,9 +13,13 @@ use Rattle.judge.specs.declared.Closed.{Closed}
 use Rattle.judge.specs.declared.Judgement.{Judgement}
 use Rattle.judge.specs.declared.Judgement.the-variants as j
 
+-- What the first field of the job said, as the code holds it.
+abbrev pub headOf : Closed → Head
+headOf c = record { size = c .size; units = c .unit }
+
 -- A question at its moment, among what the closure left.
 abbrev pub question : Closed → ℕ → Tag → Tag → Question
-question c before s t = record { size = c .size; len = c .len; joins = c .joins; before = before; s = s; t = t }
+question c before s t = record { size = c .size; unit = c .unit; len = c .len; joins = c .joins; before = before; s = s; t = t }
 
 -- The end of the report: these totals and nothing behind them; or a byte behind them; or not these totals.
 pub data Ended (report : List ℕ) (at classes idle : ℕ) : Judgement → Type 0 where

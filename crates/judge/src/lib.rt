@@ -6,7 +6,8 @@ ghost use Prim.Native.Nat.{_≤_, _<_};
 ghost use lib.ListN.{length};
 ghost use Rattle.judge.specs.Judging.{Judgeable, Judged};
 ghost use Rattle.job_field.specs.Answer.{questionSaid};
-ghost use Rattle.judge.specs.Ended.{question, Ended};
+ghost use Rattle.job_field.specs.Reading.{headIn};
+ghost use Rattle.judge.specs.Ended.{headOf, question, Ended};
 ghost use Rattle.judge.specs.Testing.{Testing, Tested};
 ghost use Rattle.judge.specs.Going.{Going, Advanced, behind};
 use answer_ask::Passed;
@@ -15,6 +16,7 @@ use job_field::Field;
 use job_field::Query;
 use job_field::behind;
 use job_field::stands_for;
+use job_field::units;
 use job_field::wide;
 use judge_explain::explained;
 use meaning::Tag;
@@ -26,9 +28,10 @@ pub enum Judgement {
     Fault(usize),
 }
 
-// What the closure left beside the table: N, the numbers of all records and of all joins, and of idle records.
+// What is judged by beside the table: N and U, the numbers of all records and of all joins, and of idle records.
 pub struct Closed {
     pub size: usize,
+    pub unit: usize,
     pub len: usize,
     pub joins: usize,
     pub idle: usize,
@@ -53,6 +56,7 @@ fn posed(closed: Closed, before: usize, s: Tag, t: Tag) -> Question
 {
     Question {
         size: closed.size,
+        unit: closed.unit,
         len: closed.len,
         joins: closed.joins,
         before,
@@ -100,8 +104,8 @@ fn tested(
     before: usize,
     q: Query,
 ) -> Passed
-    requires { ⌜ Testing (now report) (now work) (closed .size) (closed .len) (closed .joins) before place (questionSaid q) ⌝ }
-    ensures { λ r. ⌜ Tested (now (report .entry)) (now (work .entry)) (now (work .exit)) (closed .size) (closed .len) before place (questionSaid q) r ⌝ }
+    requires { ⌜ Testing (now report) (now work) (headOf closed) (closed .len) (closed .joins) before place (questionSaid q) ⌝ }
+    ensures { λ r. ⌜ Tested (now (report .entry)) (now (work .entry)) (now (work .exit)) (headOf closed) (closed .len) before place (questionSaid q) r ⌝ }
 {
     match q {
         Query::Ask(a, b) => led(report, place, work, posed(closed, before, a, b)),
@@ -111,7 +115,7 @@ fn tested(
 
 // One item of the job, with the report beside it.
 fn advance(job: &[u8], report: &[u8], work: &mut [u16], closed: Closed, s: Stand) -> Turn
-    requires { ⌜ Judgeable (now job) (now work) (closed .size) (closed .len) (closed .joins) (closed .idle) × Going (now job) (now report) s ⌝ }
+    requires { ⌜ Judgeable (now job) (now work) (closed .size) (closed .len) (closed .joins) (closed .idle) × Going (now job) (now report) s × (headIn (now job) ≡ headOf closed) ⌝ }
     ensures { λ r. ⌜ Advanced (now (job .entry)) (now (report .entry)) (now (work .entry)) (now (work .exit)) s r ⌝ }
 {
     let at = s.at;
@@ -119,7 +123,7 @@ fn advance(job: &[u8], report: &[u8], work: &mut [u16], closed: Closed, s: Stand
     let next = behind(job, at);
     match job_field::read(job, at) {
         Field::Bad(_) => Turn::Done(Judgement::Fault(place)),
-        Field::Header(_) => Turn::Done(Judgement::Fault(place)),
+        Field::Header(_, _) => Turn::Done(Judgement::Fault(place)),
         Field::Noted(l) => Turn::On(Stand {
             at: next,
             place,
@@ -148,8 +152,10 @@ pub fn judge(
     requires { ⌜ Judgeable (now job) (now work) size len joins idle ⌝ }
     ensures { λ r. ⌜ Judged (now (job .entry)) (now (report .entry)) (now (work .entry)) (now (work .exit)) r ⌝ }
 {
+    let unit = wide(units(job));
     let closed = Closed {
         size,
+        unit,
         len,
         joins,
         idle,

@@ -16,7 +16,7 @@ use Rattle.meaning.proofs.Short.{reason-others}
 use Rattle.meaning.proofs.Reference.{Small}
 use Rattle.meaning.proofs.Trim.{member-le-last, le-last}
 use Rattle.meaning.proofs.Close.{more-of}
-use Rattle.job_field.specs.Items.{explain}
+use Rattle.job_field.specs.Items.{Head, explain}
 use Rattle.table.specs.Map.{whenOf, recordsIn, listOf, listIn, Within}
 use Rattle.table.proofs.Frame.{within-refl, within-trans, within-wider, length-gather}
 use Rattle.table.specs.Past.{Past}
@@ -58,15 +58,15 @@ module _ {N len n : ℕ} {w : List ℕ} (P : Past N len w n) (R s t : ℕ) (l : 
   came-met b k M h e = rw e (record { then = λ m. met-first P M (met-join P M h); never = met-later P M R l (met-join P M h) })
 
 -- An explain where the equality does not follow has one right field.
-module _ {N : ℕ} {rs : List Rec} {R s t : ℕ} (h : Follows (UpTo rs R) s t → ⊥) (report : List ℕ) (at : ℕ) where
-  apart-field : {f : List ℕ} → Answers (tabled N rs) (afterRecords R) (explain s t) f → f ≡ field 133 []
+module _ {H : Head} {rs : List Rec} {R s t : ℕ} (h : Follows (UpTo rs R) s t → ⊥) (report : List ℕ) (at : ℕ) where
+  apart-field : {f : List ℕ} → Answers (tabled H rs) (afterRecords R) (explain s t) f → f ≡ field 133 []
   apart-field (because r) = absurd (h (reason-follows r))
   apart-field (apart _) = refl
 
-  pub apart-right : Holds report at (field 133 []) → RightAt (Answers (tabled N rs) (afterRecords R) (explain s t)) report at (To (at + 3))
+  pub apart-right : Holds report at (field 133 []) → RightAt (Answers (tabled H rs) (afterRecords R) (explain s t)) report at (To (at + 3))
   apart-right g = to {p = at + 3} (apart h) g (omega (arith, length-field 133 []))
 
-  pub apart-wrong : (Holds report at (field 133 []) → ⊥) → RightAt (Answers (tabled N rs) (afterRecords R) (explain s t)) report at Wrong
+  pub apart-wrong : (Holds report at (field 133 []) → ⊥) → RightAt (Answers (tabled H rs) (afterRecords R) (explain s t)) report at Wrong
   apart-wrong g = wrong (λ x. let r = found report at x in g (rw (apart-field (r .is)) at (r .holds)))
 
 pub apart-room : (report : List ℕ) (at : ℕ) → at ≤ length report → Holds report at (field 133 []) → at + 3 ≤ length report
@@ -78,7 +78,7 @@ record Because (N : ℕ) (rs : List Rec) (R s t : ℕ) (f : List ℕ) : Type 0 w
   reason : Reason N rs R s t list
   is : f ≡ field 132 (numbers list)
 
-because-field : {N : ℕ} {rs : List Rec} {R s t : ℕ} {f : List ℕ} → Follows (UpTo rs R) s t → Answers (tabled N rs) (afterRecords R) (explain s t) f → Because N rs R s t f
+because-field : {H : Head} {rs : List Rec} {R s t : ℕ} {f : List ℕ} → Follows (UpTo rs R) s t → Answers (tabled H rs) (afterRecords R) (explain s t) f → Because (H .size) rs R s t f
 because-field h (because {L = L} r) = record { list = L; reason = r; is = refl }
 because-field h (apart g) = absurd (g h)
 

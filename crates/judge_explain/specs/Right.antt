@@ -13,7 +13,7 @@ use Rattle.table.specs.Places.{scratch}
 use Rattle.report.specs.Report.{numbers, Answers, tabled, afterRecords}
 use Rattle.report_read.specs.Read.{Holds}
 use Rattle.moment.specs.declared.Question.{Question}
-use Rattle.moment.specs.Posed.{Posed}
+use Rattle.moment.specs.Posed.{headAsked, Posed}
 use Rattle.answer_ask.specs.declared.Passed.{Passed}
 use Rattle.answer_ask.specs.Right.{RightAt}
 
@@ -24,7 +24,7 @@ pub record Came (rs : List Rec) (R s t k : ℕ) : Type 0 where
 
 -- The right fields for an explain, by the records that the table holds.
 abbrev pub ExplainAnswer : List ℕ → Question → List ℕ → Type 0
-ExplainAnswer w q = Answers (tabled (q .size) (recordsIn (q .len) w)) (afterRecords (q .before)) (explain (q .s .0) (q .t .0))
+ExplainAnswer w q = Answers (tabled (headAsked q) (recordsIn (q .len) w)) (afterRecords (q .before)) (explain (q .s .0) (q .t .0))
 
 -- A test that is right where it says A, and writes only where a reason is looked for.
 pub record Assuring (A : Type 0) (w w′ : List ℕ) (answer : Bool) : Type 0 where

@@ -4,10 +4,24 @@ use mathlib.Core.Bool.{Bool, true, false, _&&_}
 use mathlib.Core.Logic.{Dec·not}
 use mathlib.Core.List.{List, [], _∷_}
 use lib.Dec.{T}
+use lib.ListN.{length}
 use Prim.Native.Nat.{ℕ}
 use Rattle.meaning.specs.Following.{Rec}
-use Rattle.meaning.specs.Cases.{Claim, Case, EachClaim, EachCase, AllHold, NoneHold, stars, twins}
-use Rattle.meaning.proofs.Decide.{decSays}
+use Rattle.meaning.specs.Totals.{Idle}
+use Rattle.meaning.specs.Cases.{Claim, follow, apart, leader, led, reason, unsound, classes, idle, Says, Case, EachClaim, EachCase, AllHold, NoneHold, stars, twins}
+use Rattle.meaning.proofs.Decide.{decUpTo, decReason, decClasses, decCount, decIdle}
+use Rattle.meaning.proofs.Units.{decLeader}
+
+unfoldable pub decSays : (N : ℕ) (rs : List Rec) (R : ℕ) (c : Claim) → Dec (Says N rs R c)
+unfolding decUpTo Dec·not decLeader decReason decClasses decCount decIdle
+decSays N rs R (follow s t) = decUpTo rs R s t
+decSays N rs R (apart s t) = Dec·not (decUpTo rs R s t)
+decSays N rs R (leader s l) = decLeader N rs R s l
+decSays N rs R (led U s l) = decLeader U rs R s l
+decSays N rs R (reason s t L) = decReason N rs R s t L
+decSays N rs R (unsound s t L) = Dec·not (decReason N rs R s t L)
+decSays N rs R (classes n) = decClasses N rs R n
+decSays N rs R (idle n) = decCount (Idle rs) (decIdle rs) (length rs) n
 
 abbrev yesb : {A : Type 0} → Dec A → Bool
 yesb (yes a) = true

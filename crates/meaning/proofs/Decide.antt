@@ -10,14 +10,13 @@ use mathlib.Core.List.{List, [], cons≢nil, _∷_, List·Memᴰ, List·Memᴰ·
 use lib.Dec.{T, leb, leb→le, le→leb, eqb, eqb→eq, T-not, not-T}
 use borrow.Author.Tests.{eq-eqb}
 use lib.ListN.{length, getD}
-use Rattle.meaning.specs.Following.{Rec, eq, app, At, Follows, Those, UpTo, Without, Leader}
+use Rattle.meaning.specs.Following.{Rec, eq, app, At, Follows, Those, UpTo, Without, Least}
 use Rattle.meaning.specs.Reasons.{Above, lastOf, FirstAt, Reason}
 use Rattle.meaning.specs.Labels.{Labels}
 use Rattle.meaning.specs.Totals.{Count, none, one, skip, Classes, Idle, equation, application}
-use Rattle.meaning.specs.Cases.{Claim, follow, apart, leader, reason, unsound, classes, idle, Says}
 use Rattle.meaning.proofs.Close.{more-of}
 use Rattle.meaning.proofs.Count.{count-one}
-use Rattle.meaning.proofs.Leaders.{leader-of}
+use Rattle.meaning.proofs.Leaders.{least-of}
 use Rattle.meaning.proofs.Reference.{Small, Done, done, done-same, any-below}
 use Rattle.meaning.proofs.Short.{among, among-in, in-among}
 
@@ -61,8 +60,8 @@ pub label-labels : (rs : List Rec) (p : ℕ → Bool) → Labels (label rs p)
 unfolding label
 label-labels rs p = close rs p .state .labels
 
-pub leader-one : {S : Rec → Type 0} {s l l′ : ℕ} → Leader S s l → Leader S s l′ → l ≡ l′
-leader-one {l = l} {l′ = l′} h h′ = omega (arith, h .least l′ (h′ .member), h′ .least l (h .member))
+pub least-one : {S : Rec → Type 0} {s l l′ : ℕ} → Least S s l → Least S s l′ → l ≡ l′
+least-one {l = l} {l′ = l′} h h′ = omega (arith, h .least l′ (h′ .member), h′ .least l (h .member))
 
 module _ (rs : List Rec) (p : ℕ → Bool) (P : ℕ → Type 0) (e : (k : ℕ) → P k ↔ T (p k)) where
   pub label-same : (s t : ℕ) → Follows (Those rs P) s t ↔ (label rs p s ≡ label rs p t)
@@ -75,16 +74,16 @@ module _ (rs : List Rec) (p : ℕ → Bool) (P : ℕ → Type 0) (e : (k : ℕ) 
   unfolding decIff label ℕ-discrete
   decFollows s t = decIff (Iff·symm (label-same s t)) (ℕ-discrete (label rs p s) (label rs p t))
 
-  pub label-leader : (s : ℕ) → Leader (Those rs P) s (label rs p s)
-  label-leader = leader-of (label-labels rs p) label-same
+  pub label-least : (s : ℕ) → Least (Those rs P) s (label rs p s)
+  label-least = least-of (label-labels rs p) label-same
 
-  unfoldable pub decLeader : (s l : ℕ) → Dec (Leader (Those rs P) s l)
+  unfoldable pub decLeast : (s l : ℕ) → Dec (Least (Those rs P) s l)
   unfolding label ℕ-discrete
-  decLeader s l = go (ℕ-discrete (label rs p s) l)
+  decLeast s l = go (ℕ-discrete (label rs p s) l)
     where
-      go : Dec (label rs p s ≡ l) → Dec (Leader (Those rs P) s l)
-      go (yes q) = yes (rw q at (label-leader s))
-      go (no q) = no (λ h. q (leader-one (label-leader s) h))
+      go : Dec (label rs p s ≡ l) → Dec (Least (Those rs P) s l)
+      go (yes q) = yes (rw q at (label-least s))
+      go (no q) = no (λ h. q (least-one (label-least s) h))
 
 -- What is decided can be counted.
 unfoldable pub countIt : (P : ℕ → Type 0) → ((x : ℕ) → Dec (P x)) → (N : ℕ) → (n : ℕ) × Count P N n
@@ -166,8 +165,8 @@ decFirstAt rs s t k = decIff (λ h. record { then = h .0; before = h .1 }, λ h.
 
 -- There is one number of classes, so the bound is tested for that one.
 unfoldable pub countClasses : (N : ℕ) (rs : List Rec) (k : ℕ) → (n : ℕ) × Classes N (UpTo rs k) n
-unfolding countIt decLeader
-countClasses N rs k = countIt (λ x. Leader (UpTo rs k) x x) (λ x. decLeader rs (λ n. leb n k) (λ n. n ≤ k) (upTo-test k) x x) N
+unfolding countIt decLeast
+countClasses N rs k = countIt (λ x. Least (UpTo rs k) x x) (λ x. decLeast rs (λ n. leb n k) (λ n. n ≤ k) (upTo-test k) x x) N
 
 unfoldable pub decShort : (N : ℕ) (rs : List Rec) (R : ℕ) (L : List ℕ) → Dec ((C : ℕ) → Classes N (UpTo rs R) C → length L ≤ 2 * (N - C))
 unfolding decIff decLe countClasses
@@ -191,8 +190,8 @@ decReason N rs R s t L = decIff (
     (decShort N rs R L)))))))
 
 unfoldable pub decClasses : (N : ℕ) (rs : List Rec) (k n : ℕ) → Dec (Classes N (UpTo rs k) n)
-unfolding decCount decLeader
-decClasses N rs k n = decCount (λ x. Leader (UpTo rs k) x x) (λ x. decLeader rs (λ n. leb n k) (λ n. n ≤ k) (upTo-test k) x x) N n
+unfolding decCount decLeast
+decClasses N rs k n = decCount (λ x. Least (UpTo rs k) x x) (λ x. decLeast rs (λ n. leb n k) (λ n. n ≤ k) (upTo-test k) x x) N n
 
 -- A number stands for one record.
 pub at-one : {rs : List Rec} {k k′ : ℕ} {r r′ : Rec} → k ≡ k′ → At rs k r → At rs k′ r′ → r ≡ r′
@@ -280,13 +279,3 @@ decIdle rs k = inside (decLt k (length rs))
     inside : Dec (k < length rs) → Dec (Idle rs k)
     inside (yes l) = by-kind (getD rs k (eq 0 0)) refl l
     inside (no l) = no (past l)
-
-unfoldable pub decSays : (N : ℕ) (rs : List Rec) (R : ℕ) (c : Claim) → Dec (Says N rs R c)
-unfolding decUpTo Dec·not decLeader decReason decClasses decCount decIdle
-decSays N rs R (follow s t) = decUpTo rs R s t
-decSays N rs R (apart s t) = Dec·not (decUpTo rs R s t)
-decSays N rs R (leader s l) = decLeader rs (λ n. leb n R) (λ n. n ≤ R) (upTo-test R) s l
-decSays N rs R (reason s t L) = decReason N rs R s t L
-decSays N rs R (unsound s t L) = Dec·not (decReason N rs R s t L)
-decSays N rs R (classes n) = decClasses N rs R n
-decSays N rs R (idle n) = decCount (Idle rs) (decIdle rs) (length rs) n

@@ -6,14 +6,14 @@ use mathlib.Core.Path.{_≡_, refl, sym, _∙_}
 use mathlib.Core.Logic.{_≢_, _↔_}
 use mathlib.Core.List.{List, [], _++_, List·Memᴰ, List·Memᴰ·not-nil}
 use lib.ListN.{length, getD, length-append, List·getD-append}
-use Rattle.meaning.specs.Following.{Rec, eq, At, Follows, same, Those, Only, UpTo, Without, Leader}
+use Rattle.meaning.specs.Following.{Rec, eq, At, Follows, same, Those, Only, UpTo, Without, Least}
 use Rattle.meaning.specs.Reasons.{Above, lastOf, FirstAt, Reason}
 use Rattle.meaning.specs.Joins.{Join, Justified, used, all}
 use Rattle.meaning.specs.Labels.{Labels, classes, Agree}
 use Rattle.meaning.specs.Trim.{Trimmed}
 use Rattle.meaning.specs.Totals.{Classes}
 use Rattle.meaning.proofs.Close.{more, more-of, Closed, complete}
-use Rattle.meaning.proofs.Leaders.{leader-of, classes-of}
+use Rattle.meaning.proofs.Leaders.{least-of, classes-of}
 use Rattle.meaning.proofs.Log.{linked-follows}
 use Rattle.meaning.proofs.Trim.{last-is-first}
 use Rattle.meaning.proofs.Reference.{Small}
@@ -32,8 +32,8 @@ module _ {rs : List Rec} {P : ℕ → Type 0} {e : ℕ → Join} {n : ℕ} {f : 
   pub settled-same : (s t : ℕ) → Follows (Those rs P) s t ↔ (f s ≡ f t)
   settled-same s t = (λ h. complete (d .closed) h, λ q. linked-follows rs e all P n (d .sound) (d .within) s t (d .agree .joins s t q))
 
-  pub settled-leader : (s : ℕ) → Leader (Those rs P) s (f s)
-  settled-leader = leader-of (d .labels) settled-same
+  pub settled-least : (s : ℕ) → Least (Those rs P) s (f s)
+  settled-least = least-of (d .labels) settled-same
 
   pub settled-classes : (N : ℕ) → Classes N (Those rs P) (classes f N)
   settled-classes = classes-of (d .labels) settled-same

@@ -9,7 +9,7 @@ use mathlib.Core.Bool.{Bool, true, false}
 use mathlib.Core.List.{List, []}
 use lib.Dec.{T}
 use lib.ListN.{length, getD}
-use Rattle.meaning.specs.Following.{Rec, eq, app, Follows, same, flip, chain, given, congruent, Those, UpTo, Leader}
+use Rattle.meaning.specs.Following.{Rec, eq, app, Follows, same, flip, chain, given, congruent, Those, UpTo, Least}
 use Rattle.meaning.specs.Joins.{all, put}
 use Rattle.meaning.specs.Reasons.{FirstAt, Reason}
 use Rattle.meaning.specs.Totals.{none, one, skip, Classes, Idles}
@@ -64,9 +64,9 @@ module _ (N : ℕ) {S : Rec → Type 0} (small : (r : Rec) → S r → Small N r
 pub small-those : (N : ℕ) {rs : List Rec} {P : ℕ → Type 0} → ((i : ℕ) → i < length rs → Small N (getD rs i (eq 0 0))) → (r : Rec) → Those rs P r → Small N r
 small-those N small r i = rw (i .2 .is) at (small (i .2 .place) (i .2 .stands))
 
--- A leader is no greater than its tag, so it is a tag of the job where that is one.
-pub leader-low : {S : Rec → Type 0} {s l : ℕ} → Leader S s l → l ≤ s
-leader-low {s = s} h = h .least s same
+-- The smallest of a class is no greater than any tag of it, so it is a tag of the job where that is one.
+pub least-low : {S : Rec → Type 0} {s l : ℕ} → Least S s l → l ≤ s
+least-low {s = s} h = h .least s same
 
 -- What has a reason follows from the records before the question.
 pub reason-follows : {N : ℕ} {rs : List Rec} {R s t : ℕ} {L : List ℕ} → Reason N rs R s t L → Follows (UpTo rs R) s t

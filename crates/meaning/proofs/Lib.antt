@@ -10,6 +10,7 @@ pub mod Short
 pub mod Exact
 pub mod Decide
 pub mod Laws
+pub mod Units
 pub mod Cases
 pub mod Forest
 pub mod Walk

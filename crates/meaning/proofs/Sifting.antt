@@ -8,7 +8,7 @@ use mathlib.Core.Logic.{_↔_}
 use mathlib.Core.List.{List, [], _∷_, _++_}
 use lib.ListN.{length, getD, length-append}
 use lib.Seq.{getD-append-seam}
-use Rattle.meaning.specs.Following.{Rec, eq, app, At, Follows, same, flip, chain, given, congruent, Those, UpTo, Leader}
+use Rattle.meaning.specs.Following.{Rec, eq, app, At, Follows, same, flip, chain, given, congruent, Those, UpTo, Least, Leader, unit, no-unit}
 use Rattle.meaning.specs.Totals.{Count, none, one, skip, Classes, Idle}
 use Rattle.meaning.specs.Sifting.{Busy, Sifted, start, left-out, stays}
 use Rattle.meaning.proofs.Close.{more, more-of, follows-least}
@@ -152,19 +152,23 @@ sifted-follows {rs} h s t = (
   λ f. idle-spared rs (length rs) s t .1 (more (sifted-there (omega arith) h) f),
 )
 
-same-leader : {S S′ : Rec → Type 0} → ((s t : ℕ) → Follows S s t ↔ Follows S′ s t) → {s l : ℕ} → Leader S s l → Leader S′ s l
-same-leader e {s} {l} h = record { member = e s l .0 (h .member); least = λ x f. h .least x (e s x .1 f) }
+same-least : {S S′ : Rec → Type 0} → ((s t : ℕ) → Follows S s t ↔ Follows S′ s t) → {s l : ℕ} → Least S s l → Least S′ s l
+same-least e {s} {l} h = record { member = e s l .0 (h .member); least = λ x f. h .least x (e s x .1 f) }
+
+same-leader : {U : ℕ} {S S′ : Rec → Type 0} → ((s t : ℕ) → Follows S s t ↔ Follows S′ s t) → {s l : ℕ} → Leader U S s l → Leader U S′ s l
+same-leader e {s} {l} (unit u c h) = unit u (e s l .0 c) (λ x v f. h x v (e s x .1 f))
+same-leader e {s} {l} (no-unit n h) = no-unit (λ x v f. n x v (e s x .1 f)) (same-least e h)
 
 same-count : {P Q : ℕ → Type 0} → ((x : ℕ) → P x ↔ Q x) → {N n : ℕ} → Count P N n → Count Q N n
 same-count e none = none
 same-count e (one {N = N} p c) = one (e N .0 p) (same-count e c)
 same-count e (skip {N = N} p c) = skip (λ q. p (e N .1 q)) (same-count e c)
 
-pub sifted-leader : {rs qs : List Rec} → Sifted rs (length rs) qs → {s l : ℕ} → Leader (UpTo rs (length rs)) s l → Leader (UpTo qs (length qs)) s l
+pub sifted-leader : {U : ℕ} {rs qs : List Rec} → Sifted rs (length rs) qs → {s l : ℕ} → Leader U (UpTo rs (length rs)) s l → Leader U (UpTo qs (length qs)) s l
 sifted-leader h = same-leader (sifted-follows h)
 
 pub sifted-classes : {rs qs : List Rec} → Sifted rs (length rs) qs → {N n : ℕ} → Classes N (UpTo rs (length rs)) n → Classes N (UpTo qs (length qs)) n
-sifted-classes h = same-count (λ x. (same-leader (sifted-follows h), same-leader (λ s t. let e = sifted-follows h s t in (e .1, e .0))))
+sifted-classes h = same-count (λ x. (same-least (sifted-follows h), same-least (λ s t. let e = sifted-follows h s t in (e .1, e .0))))
 
 -- There is such a job, and it is one.
 pub sifted-some : (rs : List Rec) (k : ℕ) → (qs : List Rec) × Sifted rs k qs

@@ -10,6 +10,7 @@ use Rattle.meaning.specs.Totals.{Classes, Idles}
 pub data Claim : Type 0 where
   follow apart : ℕ → ℕ → Claim
   leader : ℕ → ℕ → Claim
+  led : ℕ → ℕ → ℕ → Claim
   reason unsound : ℕ → ℕ → List ℕ → Claim
   classes idle : ℕ → Claim
 
@@ -19,8 +20,10 @@ abbrev pub Says : ℕ → List Rec → ℕ → Claim → Type 0
 Says N rs R (follow s t) = Follows (UpTo rs R) s t
 -- s and t do not follow
 Says N rs R (apart s t) = Follows (UpTo rs R) s t → ⊥
--- the leader of s is l
-Says N rs R (leader s l) = Leader (UpTo rs R) s l
+-- the leader of s is l, where no tag is a unit
+Says N rs R (leader s l) = Leader N (UpTo rs R) s l
+-- the same where the tags from U up are units
+Says N rs R (led U s l) = Leader U (UpTo rs R) s l
 -- the list is a reason for s and t
 Says N rs R (reason s t L) = Reason N rs R s t L
 -- the list is unsound: no reason for s and t
@@ -57,7 +60,11 @@ NoneHold = EachCase (λ N rs R c. Says N rs R c → ⊥)
 abbrev pub inspector : List Rec
 inspector = app 5 6 1 ∷ app 5 7 2 ∷ eq 1 3 ∷ eq 6 7 ∷ eq 0 2 ∷ []
 
--- "Those with a star are the ten to be shown directly from the definition, gathered as a single table under a single claim", which is AllHold; and the inspector's job.
+-- A shop that numbers its probes first.
+abbrev pub shop : List Rec
+shop = eq 0 3 ∷ eq 3 2 ∷ []
+
+-- "Those with a star are the ten to be shown directly from the definition, gathered as a single table under a single claim", which is AllHold; and the inspector's job, and a shop's with units.
 abbrev pub stars : List Case
 stars =
     -- 1. N=2, no records: 0 and 1 do not follow; 2 classes, 0 idle.
@@ -91,6 +98,10 @@ stars =
           follow 0 3 ∷ leader 0 0 ∷ leader 3 0 ∷ reason 0 3 (1 ∷ 2 ∷ 3 ∷ 4 ∷ 5 ∷ []) ∷ apart 0 4 ∷ leader 4 4
           ∷ reason 2 1 (1 ∷ 2 ∷ 4 ∷ []) ∷ reason 4 4 [] ∷ classes 4 ∷ idle 0 ∷ [];
     }
+    -- Document 02, No. 3, with units from 2 up: 0=3, 3=2, and a probe beside them. The one unit of a class leads, though every probe is smaller; then the smaller of two; a probe
+    -- where there is no unit. Where all tags are units, or none is, the smallest leads.
+    ∷ record { tags = 4; records = shop; before = 1; claims = led 2 0 3 ∷ led 2 3 3 ∷ led 2 1 1 ∷ led 2 2 2 ∷ classes 3 ∷ [] }
+    ∷ record { tags = 4; records = shop; before = 2; claims = led 2 0 2 ∷ led 2 3 2 ∷ led 0 3 0 ∷ led 4 3 0 ∷ led 3 0 3 ∷ classes 2 ∷ [] }
     ∷ []
 
 -- The same tags and records, case by case, with claims that are wrong: which NoneHold says. Of the points of a reason, each that does not follow from the others is the only
@@ -128,4 +139,7 @@ twins =
           apart 0 3 ∷ leader 0 1 ∷ leader 3 1 ∷ reason 0 3 (1 ∷ 2 ∷ 3 ∷ 5 ∷ []) ∷ reason 0 3 [] ∷ follow 0 4 ∷ leader 4 0
           ∷ reason 2 1 (1 ∷ 2 ∷ 3 ∷ 4 ∷ []) ∷ reason 2 1 (1 ∷ 2 ∷ 3 ∷ 4 ∷ 5 ∷ []) ∷ reason 4 4 (1 ∷ []) ∷ classes 5 ∷ idle 2 ∷ [];
     }
+    -- A probe leads a class that has a unit, or a unit one that has it not; the larger unit leads.
+    ∷ record { tags = 4; records = shop; before = 1; claims = led 2 0 0 ∷ led 2 3 0 ∷ led 2 1 2 ∷ [] }
+    ∷ record { tags = 4; records = shop; before = 2; claims = led 2 0 3 ∷ led 2 3 3 ∷ led 4 0 2 ∷ led 0 3 2 ∷ [] }
     ∷ []

@@ -1,5 +1,5 @@
--- DEFINITIONS, to be read against document 01, "Tags, records, following": records and their numbers, what follows from a
--- set of records, the class of a tag and its leader. Later files only name sets of records and use these.
+-- DEFINITIONS, to be read against document 01, "Tags, records, following", and document 02, No. 3: records and their numbers, what
+-- follows from a set of records, the class of a tag and its leader. Later files only name sets of records and use these.
 -- A tag is its number. Assumes nothing.
 use Prim.Native.Nat.{ℕ, suc, _≤_, _<_}
 use mathlib.Core.Path.{_≡_}
@@ -43,10 +43,16 @@ UpTo rs k = Those rs (λ n. n ≤ k)
 abbrev pub Class : (Rec → Type 0) → ℕ → ℕ → Type 0
 Class S s x = Follows S s x
 
--- "Its *leader* is the smallest number in the class": l is the leader of s.
-pub record Leader (S : Rec → Type 0) (s l : ℕ) : Type 0 where
+-- "The smallest number in the class": it is l, of the class of s. Every class has one, by which the classes are counted (Totals).
+pub record Least (S : Rec → Type 0) (s l : ℕ) : Type 0 where
   pub member : Class S s l
   pub least : (x : ℕ) → Class S s x → l ≤ x
+
+-- Document 02, No. 3: "N and U, where tags from U up are units. The leader is the smallest unit in the class, or the smallest tag if it
+-- has no unit. A header of length 2 means U = N": l is the leader of s.
+pub data Leader (U : ℕ) (S : Rec → Type 0) (s l : ℕ) : Type 0 where
+  unit : U ≤ l → Class S s l → ((x : ℕ) → U ≤ x → Class S s x → l ≤ x) → Leader U S s l
+  no-unit : ((x : ℕ) → U ≤ x → Class S s x → ⊥) → Least S s l → Leader U S s l
 
 -- Two more sets, for "Reasons": "those records alone", of a list of record numbers L, ..
 abbrev pub Only : List Rec → List ℕ → Rec → Type 0

@@ -3,6 +3,7 @@ pub mod Following
 pub mod Reasons
 pub mod Joins
 pub mod Labels
+pub mod Seats
 pub mod Trim
 pub mod Totals
 pub mod Cases

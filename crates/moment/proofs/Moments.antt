@@ -9,14 +9,14 @@ use mathlib.Core.Logic.{_⊎_, inl, inr}
 use mathlib.Core.List.{List}
 use lib.Dec.{leb}
 use borrow.Author.Tests.{le-leb, lt-leb}
-use Rattle.meaning.specs.Following.{Follows, UpTo, Leader}
+use Rattle.meaning.specs.Following.{Follows, UpTo, Least}
 use Rattle.meaning.specs.Reasons.{FirstAt}
 use Rattle.meaning.specs.Joins.{count}
 use Rattle.meaning.specs.Forest.{root, Links}
 use Rattle.meaning.proofs.Count.{count-low}
 use Rattle.meaning.proofs.Forest.{root-stop, root-up, root-ind}
 use Rattle.meaning.proofs.Log.{linked-up}
-use Rattle.meaning.proofs.Exact.{settled-same, settled-leader}
+use Rattle.meaning.proofs.Exact.{settled-same, settled-least}
 use Rattle.meaning.specs.Limits.{mostTags}
 use Rattle.table.specs.Map.{parentOf, ageOf, whenOf, recordsIn}
 use Rattle.table.specs.Past.{Past, ageAfter, leaderAfter}
@@ -72,8 +72,8 @@ root-beyond p g n a K l m = root-ind p g mostTags n K n (omega arith) (omega ari
 
 module _ {N len n : ℕ} {w : List ℕ} (P : Past N len w n) where
   -- The leader that the table gives at the age of record k is the leader by records 1 to k.
-  pub leader-after : (k : ℕ) → k ≤ len → (x : ℕ) → Leader (UpTo (recordsIn len w) k) x (leaderAfter w n k x)
-  leader-after k l x = settled-leader (P .moments k l) x
+  pub least-after : (k : ℕ) → k ≤ len → (x : ℕ) → Least (UpTo (recordsIn len w) k) x (leaderAfter w n k x)
+  least-after k l x = settled-least (P .moments k l) x
 
   pub age-after-most : (k : ℕ) → ageAfter w n k ≤ n
   age-after-most k = count-low (λ a. leb (whenOf w a) k) n

@@ -83,7 +83,7 @@ swap-stores w v v′ i j a b k l m p q e e′ = rw (e′, e) (swap-stored w i j 
 
 -- What is kept where only the list and what lies behind it is written.
 pub posed-kept : {w w′ : List ℕ} {q : Question} {e : ℕ} → Within (fromTo (LIST .at) e) w w′ → Posed w q → Posed w′ q
-posed-kept f p = record { past = kept-past f (p .past); early = p .early; from = p .from; to = p .to }
+posed-kept f p = record { past = kept-past f (p .past); units = p .units; early = p .early; from = p .from; to = p .to }
 
 listed-names : {w : List ℕ} {N len n : ℕ} → Listed N len n w → (k : ℕ) → List·Memᴰ k (listIn n w) → (1 ≤ k) × (k ≤ len)
 listed-names {w} {N} {len} {n} l k m =

@@ -104,7 +104,7 @@ fn look(job: &[u8], at: usize) -> Found
     match field {
         Field::Noted(l) => note_found(l, behind(job, at)),
         Field::Posed(_) => no_record(true, behind(job, at)),
-        Field::Header(_) => no_record(true, behind(job, at)),
+        Field::Header(_, _) => no_record(true, behind(job, at)),
         Field::Bad(_) => no_record(false, at),
         Field::End => no_record(false, at),
     }

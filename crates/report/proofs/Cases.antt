@@ -7,7 +7,7 @@ use mathlib.Core.List.{List, [], _∷_, _++_}
 use lib.Dec.{T}
 use Rattle.meaning.specs.Following.{eq}
 use Rattle.meaning.specs.Cases.{Claim, leader, classes, idle, Says}
-use Rattle.meaning.proofs.Decide.{decSays}
+use Rattle.meaning.proofs.Cases.{decSays}
 use Rattle.job_field.specs.Items.{Matter, matterOf, start, after, line, Item, noted, posed, ask}
 use Rattle.report.specs.Report.{two, numbers, front, field, Answers, led, Totalled, total, Sound, totals, passed, answered}
 use Rattle.report.specs.Fault.{FaultAt, past, behind, spare}
@@ -16,7 +16,7 @@ abbrev items : List Item
 items = noted (line (eq 1 2)) ∷ posed (ask 0 2) ∷ []
 
 abbrev matter : Matter
-matter = matterOf (record { size = 3 }) items
+matter = matterOf (record { size = 3; units = 3 }) items
 
 -- 83 0004 0000 0001, 8F 0004 0002 0000
 abbrev bytes : List ℕ

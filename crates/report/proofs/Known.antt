@@ -1,4 +1,4 @@
--- An answer to a question on two tags looks at N, the records and how many of them stand before it, and at nothing else: what the tables
+-- An answer to a question on two tags looks at N and U, the records and how many of them stand before it, and at nothing else: what the tables
 -- know of a matter and a moment decides it.
 -- Assumes nothing.
 use Prim.Native.Nat.{ℕ}
@@ -12,22 +12,22 @@ use Rattle.report.specs.Fault.{Stands, stands}
 pub stands-map : {P Q : List ℕ → Type 0} {bs : List ℕ} → ((f : List ℕ) → P f → Q f) → Stands P bs → Stands Q bs
 stands-map h (stands {f = f} p bs) = stands (h f p) bs
 
-module _ {M : Matter} {b : Moment} {N : ℕ} {rs : List Rec} {R : ℕ} (K : Known M b N rs R) {s t : ℕ} where
-  pub ask-known : (f : List ℕ) → Answers (tabled N rs) (afterRecords R) (ask s t) f → Answers M b (ask s t) f
-  ask-known f (led {l = l} {m = m} h k) = led {s = s} {t = t} {l = l} {m = m} (rw (K .records, K .before) h) (rw (K .records, K .before) k)
+module _ {M : Matter} {b : Moment} {H : Head} {rs : List Rec} {R : ℕ} (K : Known M b H rs R) {s t : ℕ} where
+  pub ask-known : (f : List ℕ) → Answers (tabled H rs) (afterRecords R) (ask s t) f → Answers M b (ask s t) f
+  ask-known f (led {l = l} {m = m} h k) = led {s = s} {t = t} {l = l} {m = m} (rw (K .head, K .records, K .before) h) (rw (K .head, K .records, K .before) k)
 
-  pub ask-tabled : (f : List ℕ) → Answers M b (ask s t) f → Answers (tabled N rs) (afterRecords R) (ask s t) f
-  ask-tabled f (led h k) = led (rw (K .records, K .before) at h) (rw (K .records, K .before) at k)
+  pub ask-tabled : (f : List ℕ) → Answers M b (ask s t) f → Answers (tabled H rs) (afterRecords R) (ask s t) f
+  ask-tabled f (led h k) = led (rw (K .head, K .records, K .before) at h) (rw (K .head, K .records, K .before) at k)
 
-  pub explain-known : (f : List ℕ) → Answers (tabled N rs) (afterRecords R) (explain s t) f → Answers M b (explain s t) f
-  explain-known f (because {L = L} r) = because {s = s} {t = t} {L = L} (rw (K .size, K .records, K .before) r)
+  pub explain-known : (f : List ℕ) → Answers (tabled H rs) (afterRecords R) (explain s t) f → Answers M b (explain s t) f
+  explain-known f (because {L = L} r) = because {s = s} {t = t} {L = L} (rw (K .head, K .records, K .before) r)
   explain-known f (apart h) = apart {s = s} {t = t} (rw (K .records, K .before) h)
 
-  pub explain-tabled : (f : List ℕ) → Answers M b (explain s t) f → Answers (tabled N rs) (afterRecords R) (explain s t) f
-  explain-tabled f (because r) = because (rw (K .size, K .records, K .before) at r)
+  pub explain-tabled : (f : List ℕ) → Answers M b (explain s t) f → Answers (tabled H rs) (afterRecords R) (explain s t) f
+  explain-tabled f (because r) = because (rw (K .head, K .records, K .before) at r)
   explain-tabled f (apart h) = apart (rw (K .records, K .before) at h)
 
 -- So with the room that a question needs.
-pub room-known : (H : Head) (b : Moment) (N R : ℕ) (q : Question) → H .size ≡ N → b .records ≡ R → roomOf H b q ≡ roomOf (record { size = N }) (afterRecords R) q
-room-known H b N R (ask s t) e d = refl
-room-known H b N R (explain s t) e d = rw (e, d)
+pub room-known : (H : Head) (b : Moment) (H′ : Head) (R : ℕ) (q : Question) → H ≡ H′ → b .records ≡ R → roomOf H b q ≡ roomOf H′ (afterRecords R) q
+room-known H b H′ R (ask s t) e d = refl
+room-known H b H′ R (explain s t) e d = rw (e, d)

@@ -8,7 +8,7 @@ use lib.ListN.{length, take, drop}
 use Rattle.meaning.specs.Following.{Rec, Follows, UpTo, Leader}
 use Rattle.meaning.specs.Reasons.{Reason}
 use Rattle.meaning.specs.Totals.{Classes, Idles}
-use Rattle.job_field.specs.Items.{Matter, Note, Moment, after, Question, ask, explain, Item, noted, posed}
+use Rattle.job_field.specs.Items.{Head, Matter, Note, Moment, after, Question, ask, explain, Item, noted, posed}
 
 -- All numbers are two bytes, high byte first.
 unfoldable pub two : ℕ → List ℕ
@@ -28,7 +28,7 @@ field kind body = front kind (length body) ++ body
 -- The right fields for a question at its moment: of the job's records, those before the question decide. 83 hex (131): leader of s,
 -- leader of t. 84 (132): the reason's record numbers. 85 (133): none, the equality does not follow.
 pub data Answers (M : Matter) (b : Moment) : Question → List ℕ → Type 0 where
-  led : {s t l m : ℕ} → Leader (UpTo (M .records) (b .records)) s l → Leader (UpTo (M .records) (b .records)) t m → Answers M b (ask s t) (field 131 (numbers (l ∷ m ∷ [])))
+  led : {s t l m : ℕ} → Leader (M .head .units) (UpTo (M .records) (b .records)) s l → Leader (M .head .units) (UpTo (M .records) (b .records)) t m → Answers M b (ask s t) (field 131 (numbers (l ∷ m ∷ [])))
   because : {s t : ℕ} {L : List ℕ} → Reason (M .head .size) (M .records) (b .records) s t L → Answers M b (explain s t) (field 132 (numbers L))
   apart : {s t : ℕ} → (Follows (UpTo (M .records) (b .records)) s t → ⊥) → Answers M b (explain s t) (field 133 [])
 
@@ -42,15 +42,15 @@ pub data Sound (M : Matter) : Moment → List Item → List ℕ → Type 0 where
   passed : {b : Moment} {n : Note} {is : List Item} {bs : List ℕ} → Sound M (after (noted n) b) is bs → Sound M b (noted n ∷ is) bs
   answered : {b : Moment} {q : Question} {f : List ℕ} {is : List Item} {bs : List ℕ} → Answers M b q f → Sound M (after (posed q) b) is bs → Sound M b (posed q ∷ is) (f ++ bs)
 
--- What the tables know of a matter and a moment: N, the records, and how many of them stand before it.
-pub record Known (M : Matter) (b : Moment) (N : ℕ) (rs : List Rec) (R : ℕ) : Type 0 where
-  pub size : M .head .size ≡ N
+-- What the tables know of a matter and a moment: N and U, the records, and how many of them stand before it.
+pub record Known (M : Matter) (b : Moment) (H : Head) (rs : List Rec) (R : ℕ) : Type 0 where
+  pub head : M .head ≡ H
   pub records : M .records ≡ rs
   pub before : b .records ≡ R
 
 -- A matter and a moment of which no more is known.
-abbrev pub tabled : ℕ → List Rec → Matter
-tabled N rs = record { head = record { size = N }; records = rs }
+abbrev pub tabled : Head → List Rec → Matter
+tabled H rs = record { head = H; records = rs }
 
 abbrev pub afterRecords : ℕ → Moment
 afterRecords R = record { records = R; questions = 0 }

@@ -10,11 +10,12 @@ use mathlib.Core.List.{List, [], _∷_, _++_, append-nil}
 use lib.Dec.{leb}
 use lib.ListN.{length, take, drop, length-append, take-append-drop}
 use lib.Seq.{take-append-seam, length-take-le}
-use Rattle.meaning.specs.Following.{Rec, UpTo, Leader, Follows}
+use Rattle.meaning.specs.Following.{Rec, UpTo, Least, Leader, Follows}
 use Rattle.meaning.specs.Reasons.{Reason}
 use Rattle.meaning.specs.Totals.{Classes, Idle, Idles}
-use Rattle.meaning.proofs.Decide.{label-leader, upTo-test, decUpTo, decLeader, decIdle, countIt}
+use Rattle.meaning.proofs.Decide.{upTo-test, decUpTo, decLeast, decIdle, countIt}
 use Rattle.meaning.proofs.Laws.{reason-decided}
+use Rattle.meaning.proofs.Units.{leader-there}
 use Rattle.job_field.specs.Items.{Matter, Moment, after, Question, ask, explain, Item, noted, posed}
 use Rattle.report.specs.Report.{two, numbers, front, field, Answers, led, because, apart, Totalled, total, Sound, totals, passed, answered}
 use Rattle.report.specs.Fault.{Stands, stands, FaultAt, past, behind, wrong, closing, spare}
@@ -102,14 +103,14 @@ module _ (M : Matter) where
   rs = M .records
 
   ask-decided : (b : Moment) (s t : ℕ) (bs : List ℕ) → Dec (Stands (Answers M b (ask s t)) bs)
-  ask-decided b s t bs = go (label-leader rs (λ n. leb n (b .records)) (λ n. n ≤ b .records) (upTo-test (b .records)) s) (label-leader rs (λ n. leb n (b .records)) (λ n. n ≤ b .records) (upTo-test (b .records)) t)
+  ask-decided b s t bs = go (leader-there (M .head .units) rs (b .records) s) (leader-there (M .head .units) rs (b .records) t)
     where
-      of : {l m : ℕ} → Leader (UpTo rs (b .records)) s l → Leader (UpTo rs (b .records)) t m → Dec (Begins bs (field 131 (numbers (l ∷ m ∷ [])))) → Dec (Stands (Answers M b (ask s t)) bs)
+      of : {l m : ℕ} → Leader (M .head .units) (UpTo rs (b .records)) s l → Leader (M .head .units) (UpTo rs (b .records)) t m → Dec (Begins bs (field 131 (numbers (l ∷ m ∷ [])))) → Dec (Stands (Answers M b (ask s t)) bs)
       of {l} {m} h k (yes z) = yes (stands-in (field 131 (numbers (l ∷ m ∷ []))) (z .0) (led h k) (sym (z .1)))
       of h k (no z) = no (λ s. z (ask-right h k s))
 
-      go : {l m : ℕ} → Leader (UpTo rs (b .records)) s l → Leader (UpTo rs (b .records)) t m → Dec (Stands (Answers M b (ask s t)) bs)
-      go {l} {m} h k = of h k (begins-decided (field 131 (numbers (l ∷ m ∷ []))) bs)
+      go : (l : ℕ) × Leader (M .head .units) (UpTo rs (b .records)) s l → (m : ℕ) × Leader (M .head .units) (UpTo rs (b .records)) t m → Dec (Stands (Answers M b (ask s t)) bs)
+      go l m = of (l .1) (m .1) (begins-decided (field 131 (numbers (l .0 ∷ m .0 ∷ []))) bs)
 
   explain-decided : (b : Moment) (s t : ℕ) (bs : List ℕ) → Dec (Stands (Answers M b (explain s t)) bs)
   explain-decided b s t bs = go (decUpTo rs (b .records) s t) (begins-decided (field 133 []) bs) (list-decided 132 bs)
@@ -129,7 +130,7 @@ module _ (M : Matter) where
   question-decided b (explain s t) bs = explain-decided b s t bs
 
   totals-decided : (bs : List ℕ) → Dec (Stands (Totalled M) bs)
-  totals-decided bs = go (countIt (λ x. Leader (UpTo rs (length rs)) x x) (λ x. decLeader rs (λ n. leb n (length rs)) (λ n. n ≤ length rs) (upTo-test (length rs)) x x) N) (countIt (Idle rs) (decIdle rs) (length rs))
+  totals-decided bs = go (countIt (λ x. Least (UpTo rs (length rs)) x x) (λ x. decLeast rs (λ n. leb n (length rs)) (λ n. n ≤ length rs) (upTo-test (length rs)) x x) N) (countIt (Idle rs) (decIdle rs) (length rs))
     where
       of : {c i : ℕ} → Classes N (UpTo rs (length rs)) c → Idles rs i → Dec (Begins bs (field 143 (numbers (c ∷ i ∷ [])))) → Dec (Stands (Totalled M) bs)
       of {c} {i} h k (yes z) = yes (stands-in (field 143 (numbers (c ∷ i ∷ []))) (z .0) (total h k) (sym (z .1)))

@@ -10,8 +10,8 @@ use lib.Seq.{drop-cons}
 use Rattle.meaning.specs.Following.{Follows, UpTo, Leader}
 use Rattle.meaning.specs.Reasons.{Reason}
 use Rattle.meaning.specs.Totals.{Classes, Idles}
-use Rattle.meaning.proofs.Decide.{leader-one}
 use Rattle.meaning.proofs.Laws.{classes-one, idles-one, reason-follows}
+use Rattle.meaning.proofs.Units.{leader-one}
 use Rattle.job_field.specs.Items.{Matter, Moment, after, Question, ask, explain, Item, posed}
 use Rattle.report.specs.Report.{numbers, field, Answers, led, because, apart, Totalled, total, Sound, totals, answered}
 use Rattle.report.specs.Fault.{Stands, stands, FaultAt, behind, spare}
@@ -26,7 +26,7 @@ abbrev pub Begins : List ℕ → List ℕ → Type 0
 Begins bs f = (rest : List ℕ) × (bs ≡ f ++ rest)
 
 module _ {M : Matter} {b : Moment} {s t : ℕ} where
-  pub ask-right : {bs : List ℕ} {l m : ℕ} → Leader (UpTo (M .records) (b .records)) s l → Leader (UpTo (M .records) (b .records)) t m → Stands (Answers M b (ask s t)) bs → Begins bs (field 131 (numbers (l ∷ m ∷ [])))
+  pub ask-right : {bs : List ℕ} {l m : ℕ} → Leader (M .head .units) (UpTo (M .records) (b .records)) s l → Leader (M .head .units) (UpTo (M .records) (b .records)) t m → Stands (Answers M b (ask s t)) bs → Begins bs (field 131 (numbers (l ∷ m ∷ [])))
   ask-right {l = l} {m = m} h k (stands (led {l = l′} {m = m′} h′ k′) rest) =
       let p : l′ ≡ l = leader-one h′ h in
       let q : m′ ≡ m = leader-one k′ k in

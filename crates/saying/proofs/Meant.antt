@@ -78,13 +78,13 @@ module _ {M : Matter} where
   meant-as {b} {is} p h = subst (Meant M b is) (sym p) h
 
   -- The line of an ask, by whether the leaders are one.
-  ask-meant : {b : Moment} {s t l m : ℕ} {is : List Item} {x : List ℕ} → Leader (UpTo (M .records) (b .records)) s l → Leader (UpTo (M .records) (b .records)) t m
+  ask-meant : {b : Moment} {s t l m : ℕ} {is : List Item} {x : List ℕ} → Leader (M .head .units) (UpTo (M .records) (b .records)) s l → Leader (M .head .units) (UpTo (M .records) (b .records)) t m
       → Meant M (after (posed (ask s t)) b) is x → Meant M b (posed (ask s t) ∷ is) (askLine s t l m ++ x)
   unfolding askLine
   ask-meant {b} {s} {t} {l} {m} {is} {x} h k r = go (eqb l m) refl
     where
       go : (c : Bool) → eqb l m ≡ c → Meant M b (posed (ask s t) ∷ is) (cond c (line 83 (s ∷ t ∷ l ∷ [])) (line 68 (s ∷ t ∷ l ∷ m ∷ [])) ++ x)
-      go true e = let p : l ≡ m = eqb→eq l m (subst T (sym e) tt) in means.same h (subst (Leader (UpTo (M .records) (b .records)) t) (sym p) k) r
+      go true e = let p : l ≡ m = eqb→eq l m (subst T (sym e) tt) in means.same h (subst (Leader (M .head .units) (UpTo (M .records) (b .records)) t) (sym p) k) r
       go false e = means.different h k (λ p. subst T (ap (eqb l) p ∙ e) (eqb-refl l)) r
 
   totals-meant : {b : Moment} {bs : List ℕ} → Totalled M bs → Meant M b [] (linesOf [] bs)

@@ -15,10 +15,10 @@ pub data Meant (M : Matter) : Moment → List Item → List ℕ → Type 0 where
   -- a note has no line
   passed : {b : Moment} {n : Note} {is : List Item} {x : List ℕ} → Meant M (after (noted n) b) is x → Meant M b (noted n ∷ is) x
   -- `S s t l`: ask, same, leader
-  same : {b : Moment} {s t l : ℕ} {is : List Item} {x : List ℕ} → Leader (UpTo (M .records) (b .records)) s l → Leader (UpTo (M .records) (b .records)) t l
+  same : {b : Moment} {s t l : ℕ} {is : List Item} {x : List ℕ} → Leader (M .head .units) (UpTo (M .records) (b .records)) s l → Leader (M .head .units) (UpTo (M .records) (b .records)) t l
       → Meant M (after (posed (ask s t)) b) is x → Meant M b (posed (ask s t) ∷ is) (line 83 (s ∷ t ∷ l ∷ []) ++ x)
   -- `D s t l m`: ask, different, both leaders
-  different : {b : Moment} {s t l m : ℕ} {is : List Item} {x : List ℕ} → Leader (UpTo (M .records) (b .records)) s l → Leader (UpTo (M .records) (b .records)) t m → l ≢ m
+  different : {b : Moment} {s t l m : ℕ} {is : List Item} {x : List ℕ} → Leader (M .head .units) (UpTo (M .records) (b .records)) s l → Leader (M .head .units) (UpTo (M .records) (b .records)) t m → l ≢ m
       → Meant M (after (posed (ask s t)) b) is x → Meant M b (posed (ask s t) ∷ is) (line 68 (s ∷ t ∷ l ∷ m ∷ []) ++ x)
   -- `E s t k` and k record numbers, which are a reason
   because : {b : Moment} {s t : ℕ} {L : List ℕ} {is : List Item} {x : List ℕ} → Reason (M .head .size) (M .records) (b .records) s t L

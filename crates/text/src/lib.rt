@@ -67,6 +67,7 @@ pub fn tell_report(job: &[u8], report: &[u8], out: &mut [u8]) -> Told
         Answer::Refused { fault, place } => tell_refusal(number_of(fault), place, out),
         Answer::Accepted {
             size: _,
+            units: _,
             records: _,
             questions: _,
             room: _,

@@ -149,7 +149,7 @@ pub fn put_field(field: Field, report: &[u8], out: &mut [u8], at: usize) -> usiz
 {
     match field {
         Field::Bad(_) => at,
-        Field::Header(_) => at,
+        Field::Header(_, _) => at,
         Field::Noted(_) => at,
         Field::Posed(q) => put_question(q, report, out, at),
         Field::End => put_totals(report, out, at),
@@ -162,7 +162,7 @@ pub fn passed(field: Field, report: &[u8]) -> usize
 {
     match field {
         Field::Bad(_) => 0,
-        Field::Header(_) => 0,
+        Field::Header(_, _) => 0,
         Field::Noted(_) => 0,
         Field::Posed(_) => width(report),
         Field::End => 0,

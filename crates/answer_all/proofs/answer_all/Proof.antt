@@ -8,6 +8,7 @@ use mathlib.Core.Path.{sym, _∙_}
 use lib.ListN.{length}
 use denote.Ref.{now}
 use Rattle.job_field.specs.Answer.{said}
+use Rattle.moment.specs.Posed.{headOf}
 use Rattle.answer_all.specs.Asking.{Midway}
 use Rattle.answer_all.proofs.Midway.{midway-begin, room-length, midway-ended, midway-meeting, midway-within, midway-on, midway-closer}
 use Rattle.answer_all.proofs.answer_all.Statement.{statement}
@@ -16,7 +17,7 @@ use Rattle.answer_all.proofs.answer_all.Reads as reads
 use Rattle.answer_all.proofs.answer_all.Lts as lts
 
 abbrev Inv-loop : tie.InvT-loop
-Inv-loop job room₀ work₀ c p₀ room work p = Midway job work₀ room₀ (c .size) (c .len) (c .joins) (p .at) (p .out) (p .before) work room
+Inv-loop job room₀ work₀ c p₀ room work p = Midway job work₀ room₀ (headOf c) (c .len) (c .joins) (p .at) (p .out) (p .before) work room
 
 abbrev μ-loop : tie.MeasureT-loop
 μ-loop job room₀ work₀ c p₀ room work p = length job - p .at

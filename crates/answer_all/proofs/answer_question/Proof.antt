@@ -25,7 +25,7 @@ same-length-2 : tie.Need-same-length-2
 same-length-2 c = search needs
 
 returns : tie.Need-returns
-returns c = rw (ap questionSaid (c .before .before .before .before .before .before .q .given .1)) (c .before .before .answer-ask .ensures)
+returns c = rw (ap questionSaid (c .before .before .before .before .before .before .before .before .q .given .1)) (c .before .before .before .before .answer-ask .ensures)
 
 same-length-3 : tie.Need-same-length-3
 same-length-3 c = search needs

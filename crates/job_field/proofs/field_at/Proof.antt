@@ -27,9 +27,6 @@ returns-2 c =
     let short : length (now (a .job)) < a .at + 3 = omega arith in
     simp (lt-leb _ _ short)
 
-shared-slice-read-kind-at : tie.Need-shared-slice-read-kind-at
-shared-slice-read-kind-at c = search needs
-
 kind-at-requires : tie.Need-kind-at-requires
 kind-at-requires c κs = search needs
 
@@ -39,7 +36,7 @@ of-kind-requires c κs = search needs
 returns-3 : tie.Need-returns-3
 unfolding fieldAt
 returns-3 c =
-    let a = c .before .before .before .before .before .before .args in
+    let a = c .before .before .before .before .before .args in
     let three : a .at + 3 ≤ length (now (a .job)) = omega arith in
     rw (le-leb _ _ three, ← c .before .kind-at .ensures) (c .of-kind .ensures)
 
@@ -50,7 +47,6 @@ field-at-spec =
     returns
     sub-if2
     returns-2
-    shared-slice-read-kind-at
     kind-at-requires
     of-kind-requires
     returns-3)

@@ -1,21 +1,43 @@
--- `job_field::kind_at` meets its contract: the tests that led to a return say which case of `kindAt` holds.
+-- `job_field::kind_at` meets its contract: the place says which case of `kindAt` holds.
 -- Assumes nothing.
 use borrow.Author.Needs.{needs}
 use borrow.Author.Tests.{eq-eqb, ne-eqb}
 use Rattle.job_field.proofs.kind_at.Statement.{statement}
 use Rattle.job_field.proofs.kind_at.Tie as tie
 
+byte-requires : tie.Need-byte-requires
+byte-requires c κs = search needs
+
+add-number : tie.Need-add-number
+add-number c = search needs
+
+number-requires : tie.Need-number-requires
+number-requires c κs = search needs
+
+first-kind-requires : tie.Need-first-kind-requires
+first-kind-requires c κs = search needs
+
+byte-requires-2 : tie.Need-byte-requires-2
+byte-requires-2 c κs = search needs
+
 later-kind-requires : tie.Need-later-kind-requires
 later-kind-requires c κs = search needs
 
 returns : tie.Need-returns
-returns c = simp (eq-eqb _ _ (c .before .if1 .taken), eq-eqb _ _ (c .if2 .taken))
+returns c = rw (eq-eqb _ _ (c .before .before .before .if1 .taken), ← c .before .before .byte .ensures, ← c .before .number .ensures) (c .first-kind .ensures)
 
 returns-2 : tie.Need-returns-2
-returns-2 c = simp (eq-eqb _ _ (c .before .if1 .taken), ne-eqb _ _ (c .if2 .left))
-
-returns-3 : tie.Need-returns-3
-returns-3 c = simp (ne-eqb _ _ (c .before .if1 .left)) (c .later-kind .ensures)
+returns-2 c = rw (ne-eqb _ _ (c .before .before .if1 .left), ← c .before .byte2 .ensures) (c .later-kind .ensures)
 
 pub kind-at-spec : {M : Type 1} → statement M
-kind-at-spec = tie.close (tie.spec later-kind-requires returns returns-2 returns-3)
+kind-at-spec =
+    tie.close
+    (tie.spec
+    byte-requires
+    add-number
+    number-requires
+    first-kind-requires
+    byte-requires-2
+    later-kind-requires
+    returns
+    returns-2)

@@ -34,26 +34,32 @@ enum-told-6 c = search needs
 enum-told-7 : tie.Need-enum-told-7
 enum-told-7 c = search needs
 
+enum-told-8 : tie.Need-enum-told-8
+enum-told-8 c = search needs
+
 returns : tie.Need-returns
 returns c = rw (c .enum-told .given .1)
 
 returns-2 : tie.Need-returns-2
-returns-2 c = rw (c .enum-told2 .given .1, c .before .before .before .before .of .ensures, c .before .before .before .of2 .ensures)
+returns-2 c = rw (c .enum-told2 .given .1)
 
 returns-3 : tie.Need-returns-3
-returns-3 c = rw (c .enum-told3 .given .1, c .before .before .before .before .of .ensures, c .before .before .before .of2 .ensures, c .before .before .of3 .ensures)
+returns-3 c = rw (c .enum-told3 .given .1, c .before .before .before .before .of .ensures, c .before .before .before .of2 .ensures)
 
 returns-4 : tie.Need-returns-4
-returns-4 c = rw (c .enum-told4 .given .1, c .before .before .before .before .of .ensures, c .before .before .before .of2 .ensures)
+returns-4 c = rw (c .enum-told4 .given .1, c .before .before .before .before .of .ensures, c .before .before .before .of2 .ensures, c .before .before .of3 .ensures)
 
 returns-5 : tie.Need-returns-5
 returns-5 c = rw (c .enum-told5 .given .1, c .before .before .before .before .of .ensures, c .before .before .before .of2 .ensures)
 
 returns-6 : tie.Need-returns-6
-returns-6 c = search needs
+returns-6 c = rw (c .enum-told6 .given .1, c .before .before .before .before .of .ensures, c .before .before .before .of2 .ensures)
 
 returns-7 : tie.Need-returns-7
-returns-7 c = rw (c .enum-told7 .given .1)
+returns-7 c = search needs
+
+returns-8 : tie.Need-returns-8
+returns-8 c = rw (c .enum-told8 .given .1)
 
 pub meant-spec : {M : Type 1} → statement M
 meant-spec =
@@ -69,10 +75,12 @@ meant-spec =
     enum-told-5
     enum-told-6
     enum-told-7
+    enum-told-8
     returns
     returns-2
     returns-3
     returns-4
     returns-5
     returns-6
-    returns-7)
+    returns-7
+    returns-8)

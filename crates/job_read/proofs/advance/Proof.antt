@@ -26,8 +26,8 @@ enum-known-field c = search needs
 offset-of-requires : tie.Need-offset-of-requires
 offset-of-requires c κs = search needs
 
-add-t14 : tie.Need-add-t14
-add-t14 c = search needs
+add-t16 : tie.Need-add-t16
+add-t16 c = search needs
 
 enum-known-field-2 : tie.Need-enum-known-field-2
 enum-known-field-2 c = search needs
@@ -47,53 +47,47 @@ past-question-requires c κs = search needs
 room-of-requires : tie.Need-room-of-requires
 room-of-requires c κs = search needs
 
-add-t21 : tie.Need-add-t21
-add-t21 c = search needs
+add-t24 : tie.Need-add-t24
+add-t24 c = search needs
 
 enum-told : tie.Need-enum-told
 enum-told c = search needs
 
 ended-requires : tie.Need-ended-requires
 ended-requires c κs =
-    let b = c .before .before in
-    let a = b .before .before .before .before .before in
-    let e = sym (b .allowed .ensures ∙ ap (checked (headSeen (a .args .s)) (momentOf (a .args .s .counts))) (b .before .read .ensures)) ∙ ap said (c .enum-told .given .1) in
-    (a .pre, there (now (a .args .job)) (a .args .s) (a .pre) end tt e)
+    let a = c .before .before .before .before .before .before .before .before .args in
+    let e = sym (c .before .before .allowed .ensures ∙ ap (checked (headSeen (a .s)) (momentOf (a .s .counts))) (c .before .before .before .read .ensures)) ∙ ap said (c .enum-told .given .1) in
+    (c .before .before .before .before .before .before .before .before .pre, there (now (a .job)) (a .s) (c .before .before .before .before .before .before .before .before .pre) end tt e)
 
 returns : tie.Need-returns
 returns c =
-    let b = c .before .before .before .before in
-    let a = b .before .before .before .before .before in
-    let e = sym (b .allowed .ensures ∙ ap (checked (headSeen (a .args .s)) (momentOf (a .args .s .counts))) (b .before .read .ensures)) ∙ ap said (c .before .before .field .given .1) in
-    done-bad (now (a .args .job)) (a .args .s) (a .pre) _ _ e (rw (c .offset-of .ensures .0))
+    let a = c .before .before .before .before .before .before .before .before .before .before .args in
+    let e = sym (c .before .before .before .before .allowed .ensures ∙ ap (checked (headSeen (a .s)) (momentOf (a .s .counts))) (c .before .before .before .before .before .read .ensures)) ∙ ap said (c .before .before .field .given .1) in
+    done-bad (now (a .job)) (a .s) (c .before .before .before .before .before .before .before .before .before .before .pre) _ _ e (rw (c .offset-of .ensures .0))
 
 returns-2 : tie.Need-returns-2
 returns-2 c =
-    let b = c .before .before .before in
-    let a = b .before .before .before .before .before in
-    let e = sym (b .allowed .ensures ∙ ap (checked (headSeen (a .args .s)) (momentOf (a .args .s .counts))) (b .before .read .ensures)) ∙ ap said (c .before .field2 .given .1) in
-    on-header (now (a .args .job)) (a .args .s) (a .pre) _ _ (b .before .before .behind .ensures) e
+    let a = c .before .before .before .before .before .before .before .before .before .args in
+    let e = sym (c .before .before .before .allowed .ensures ∙ ap (checked (headSeen (a .s)) (momentOf (a .s .counts))) (c .before .before .before .before .read .ensures)) ∙ ap said (c .before .field2 .given .1) in
+    on-header (now (a .job)) (a .s) (c .before .before .before .before .before .before .before .before .before .pre) _ _ (c .before .before .before .before .before .behind .ensures) e
 
 returns-3 : tie.Need-returns-3
 returns-3 c =
-    let b = c .before .before .before .before in
-    let a = b .before .before .before .before .before in
-    let e = sym (b .allowed .ensures ∙ ap (checked (headSeen (a .args .s)) (momentOf (a .args .s .counts))) (b .before .read .ensures)) ∙ ap said (c .before .before .field3 .given .1) in
-    on-note (now (a .args .job)) (a .args .s) (a .pre) _ _ _ (b .before .before .behind .ensures) (c .past-note .ensures) e
+    let a = c .before .before .before .before .before .before .before .before .before .before .args in
+    let e = sym (c .before .before .before .before .allowed .ensures ∙ ap (checked (headSeen (a .s)) (momentOf (a .s .counts))) (c .before .before .before .before .before .read .ensures)) ∙ ap said (c .before .before .field3 .given .1) in
+    on-note (now (a .job)) (a .s) (c .before .before .before .before .before .before .before .before .before .before .pre) _ _ _ (c .before .before .before .before .before .before .behind .ensures) (c .past-note .ensures) e
 
 returns-4 : tie.Need-returns-4
 returns-4 c =
-    let b = c .before .before .before .before .before .before in
-    let a = b .before .before .before .before .before in
-    let e = sym (b .allowed .ensures ∙ ap (checked (headSeen (a .args .s)) (momentOf (a .args .s .counts))) (b .before .read .ensures)) ∙ ap said (c .before .before .before .before .field4 .given .1) in
-    on-question (now (a .args .job)) (a .args .s) (a .pre) _ _ _ _ (b .before .before .behind .ensures) (c .before .room-of .ensures .0) (c .before .before .past-question .ensures) e
+    let a = c .before .before .before .before .before .before .before .before .before .before .before .before .args in
+    let e = sym (c .before .before .before .before .before .before .allowed .ensures ∙ ap (checked (headSeen (a .s)) (momentOf (a .s .counts))) (c .before .before .before .before .before .before .before .read .ensures)) ∙ ap said (c .before .before .before .before .field4 .given .1) in
+    on-question (now (a .job)) (a .s) (c .before .before .before .before .before .before .before .before .before .before .before .before .pre) _ _ _ _ (c .before .before .before .before .before .before .before .before .behind .ensures) (c .before .room-of .ensures .0) (c .before .before .past-question .ensures) e
 
 returns-5 : tie.Need-returns-5
 returns-5 c =
-    let b = c .before .before .before in
-    let a = b .before .before .before .before .before in
-    let e = sym (b .allowed .ensures ∙ ap (checked (headSeen (a .args .s)) (momentOf (a .args .s .counts))) (b .before .read .ensures)) ∙ ap said (c .before .enum-told .given .1) in
-    done-end (now (a .args .job)) (a .args .s) (a .pre) _ e (c .ended .ensures)
+    let a = c .before .before .before .before .before .before .before .before .before .args in
+    let e = sym (c .before .before .before .allowed .ensures ∙ ap (checked (headSeen (a .s)) (momentOf (a .s .counts))) (c .before .before .before .before .read .ensures)) ∙ ap said (c .before .enum-told .given .1) in
+    done-end (now (a .job)) (a .s) (c .before .before .before .before .before .before .before .before .before .pre) _ e (c .ended .ensures)
 
 pub advance-spec : {M : Type 1} → statement M
 advance-spec =
@@ -104,14 +98,14 @@ advance-spec =
     allowed-requires
     enum-known-field
     offset-of-requires
-    add-t14
+    add-t16
     enum-known-field-2
     enum-known-field-3
     past-note-requires
     enum-known-field-4
     past-question-requires
     room-of-requires
-    add-t21
+    add-t24
     enum-told
     ended-requires
     returns

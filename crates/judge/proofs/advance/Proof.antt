@@ -41,7 +41,7 @@ tested-requires : tie.Need-tested-requires
 tested-requires c κs =
     let start = c .before .before .before .before .before .before .before .before .before in
     let e = sym (c .before .before .before .before .read .ensures) ∙ ap said (c .before .before .q .given .1) in
-    testing-there (start .args .closed) (start .args .s) (start .pre .0) (start .pre .1) _ e
+    testing-there (start .args .closed) (start .args .s) (start .pre .0) (start .pre .1) (start .pre .2) _ e
 
 onward-requires : tie.Need-onward-requires
 onward-requires c κs = search needs
@@ -53,7 +53,7 @@ sub-ended : tie.Need-sub-ended
 sub-ended c = search needs
 
 ended-requires : tie.Need-ended-requires
-ended-requires c κs = let start = c .before .before .before .before .before .before .before .before in totals-fit (start .args .closed) (start .args .s) (start .pre .0) (start .pre .1)
+ended-requires c κs = let start = c .before .before .before .before .before .before .before .before in totals-fit (start .args .closed) (start .args .s) (start .pre .0) (start .pre .1) (start .pre .2)
 
 returns : tie.Need-returns
 returns c =
@@ -80,7 +80,7 @@ returns-4 : tie.Need-returns-4
 returns-4 c =
     let start = c .before .before .before .before .before .before .before .before .before .before .before .before .before in
     let e = sym (c .before .before .before .before .before .before .before .before .read .ensures) ∙ ap said (c .before .before .before .before .before .before .q .given .1) in
-    record { kept = c .before .before .before .tested .ensures .kept; turned = turn-question (start .args .closed) (start .args .s) (start .pre .0) (start .pre .1) _ _ (c .before .before .before .before .before .before .before .before .before .behind .ensures) e (c .before .before .before .tested .result) (c .before .before .before .tested .ensures) _ (c .onward .ensures) }
+    record { kept = c .before .before .before .tested .ensures .kept; turned = turn-question (start .args .closed) (start .args .s) (start .pre .0) (start .pre .1) (start .pre .2) _ _ (c .before .before .before .before .before .before .before .before .before .behind .ensures) e (c .before .before .before .tested .result) (c .before .before .before .tested .ensures) _ (c .onward .ensures) }
 
 returns-5 : tie.Need-returns-5
 returns-5 c =

@@ -7,26 +7,32 @@ use mathlib.Core.Path.{_∙_}
 use lib.ListN.{length}
 use denote.Ref.{now}
 use Rattle.table.proofs.Frame.{within-refl, within-trans}
-use Rattle.judge.proofs.Going.{Judging, judgeable-kept, going-start, going-within, turned-on, turned-done}
+use Rattle.judge.proofs.Going.{Judging, judgeable-kept, head-read, going-start, going-within, turned-on, turned-done}
 use Rattle.judge.proofs.judge.Statement.{statement}
 use Rattle.judge.proofs.judge.Tie as tie
 
 abbrev Inv-loop : tie.InvT-loop
-Inv-loop job report work₀ size len joins idle closed s₀ work s = Judging job report work₀ work closed s
+Inv-loop job report work₀ size len joins idle unit closed s₀ work s = Judging job report work₀ work closed s
 
 abbrev μ-loop : tie.MeasureT-loop
-μ-loop job report work₀ size len joins idle closed s₀ work s = length job - s .at
+μ-loop job report work₀ size len joins idle unit closed s₀ work s = length job - s .at
+
+units-requires : tie.Need-units-requires Inv-loop μ-loop
+units-requires c κs = search needs
+
+wide-requires : tie.Need-wide-requires Inv-loop μ-loop
+wide-requires c κs = search needs
 
 behind-requires : tie.Need-behind-requires Inv-loop μ-loop
 behind-requires c κs = search needs
 
 loop-holds : tie.Need-loop-holds Inv-loop μ-loop
 loop-holds c =
-    let start = c .before .before .before .before in
-    record { kept = within-refl (now (start .args .work)); judgeable = start .pre; going = going-start (now (start .args .report)) (start .pre) _ (c .behind .ensures) }
+    let start = c .before .before .before .before .before .before in
+    record { kept = within-refl (now (start .args .work)); judgeable = start .pre; top = head-read (start .pre) _ (c .before .wide .ensures ∙ c .before .before .units .ensures); going = going-start (now (start .args .report)) (start .pre) _ (c .behind .ensures) }
 
 advance-requires : tie.Need-advance-requires Inv-loop μ-loop
-advance-requires c κs = let at = c .before .loop in (at .inv .judgeable, at .inv .going)
+advance-requires c κs = let at = c .before .loop in (at .inv .judgeable, at .inv .going, at .inv .top)
 
 enum-known-t : tie.Need-enum-known-t Inv-loop μ-loop
 enum-known-t c = search needs
@@ -41,7 +47,7 @@ loop-again : tie.Need-loop-again Inv-loop μ-loop
 loop-again c =
     let at = c .before .before .before .before .before .before .before .loop in
     let a = c .before .before .before .before .before .advance .ensures in
-    record { kept = within-trans (at .inv .kept) (a .kept); judgeable = judgeable-kept (a .kept) (at .inv .judgeable); going = turned-on (a .turned) (c .before .t .given .1) .1 }
+    record { kept = within-trans (at .inv .kept) (a .kept); judgeable = judgeable-kept (a .kept) (at .inv .judgeable); top = at .inv .top; going = turned-on (a .turned) (c .before .t .given .1) .1 }
 
 enum-known-r : tie.Need-enum-known-r Inv-loop μ-loop
 enum-known-r c = search needs
@@ -61,6 +67,8 @@ judge-spec =
     (tie.spec
     Inv-loop
     μ-loop
+    units-requires
+    wide-requires
     behind-requires
     loop-holds
     advance-requires

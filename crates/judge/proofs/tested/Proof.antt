@@ -17,7 +17,7 @@ posed-requires : tie.Need-posed-requires
 posed-requires c κs = search needs
 
 led-requires : tie.Need-led-requires
-led-requires c κs = let t = rw (ap questionSaid (c .before .before .before .q .given .1)) at (c .before .before .before .before .before .before .before .pre) in (rw (c .posed .ensures) (record { past = t .past; early = t .early; from = t .tags .0; to = t .tags .1 .0 }), t .within)
+led-requires c κs = let t = rw (ap questionSaid (c .before .before .before .q .given .1)) at (c .before .before .before .before .before .before .before .pre) in (rw (c .posed .ensures) (record { past = t .past; units = t .units; early = t .early; from = t .tags .0; to = t .tags .1 .0 }), t .within)
 
 enum-known-q-2 : tie.Need-enum-known-q-2
 enum-known-q-2 c = search needs
@@ -26,13 +26,13 @@ posed-requires-2 : tie.Need-posed-requires-2
 posed-requires-2 c κs = search needs
 
 explained-requires : tie.Need-explained-requires
-explained-requires c κs = let t = rw (ap questionSaid (c .before .before .before .q2 .given .1)) at (c .before .before .before .before .before .before .before .pre) in (rw (c .posed2 .ensures) (record { past = t .past; early = t .early; from = t .tags .0; to = t .tags .1 .0 }), t .within)
+explained-requires c κs = let t = rw (ap questionSaid (c .before .before .before .q2 .given .1)) at (c .before .before .before .before .before .before .before .pre) in (rw (c .posed2 .ensures) (record { past = t .past; units = t .units; early = t .early; from = t .tags .0; to = t .tags .1 .0 }), t .within)
 
 same-length : tie.Need-same-length
 same-length c = search needs
 
 returns : tie.Need-returns
-returns c = rw (ap questionSaid (c .before .before .before .before .q .given .1)) (record { kept = within-refl (now (c .before .before .before .before .before .before .before .before .args .work)); right = λ M b K. right-same (ask-known K) (ask-tabled K) (rw (c .before .posed .ensures) at (c .led .ensures)) })
+returns c = rw (ap questionSaid (c .before .before .before .before .before .before .q .given .1)) (record { kept = c .before .before .led .ensures .kept; right = λ M b K. right-same (ask-known K) (ask-tabled K) (rw (c .before .before .before .posed .ensures) at (c .before .before .led .ensures .right)) })
 
 same-length-2 : tie.Need-same-length-2
 same-length-2 c = search needs

@@ -1,0 +1,17 @@
+-- `job_field::first_kind` meets its contract: the tests that led to a return say which case of `firstKind` holds.
+-- Assumes nothing.
+use borrow.Author.Tests.{eq-eqb, ne-eqb}
+use Rattle.job_field.proofs.first_kind.Statement.{statement}
+use Rattle.job_field.proofs.first_kind.Tie as tie
+
+returns : tie.Need-returns
+returns c = simp (eq-eqb _ _ (c .before .if1 .taken), eq-eqb _ _ (c .if2 .taken))
+
+returns-2 : tie.Need-returns-2
+returns-2 c = simp (eq-eqb _ _ (c .before .if1 .taken), ne-eqb _ _ (c .if2 .left))
+
+returns-3 : tie.Need-returns-3
+returns-3 c = simp (ne-eqb _ _ (c .if1 .left))
+
+pub first-kind-spec : {M : Type 1} → statement M
+first-kind-spec = tie.close (tie.spec returns returns-2 returns-3)
