@@ -3,13 +3,13 @@ use Prim.Native.Nat.{ℕ, suc, _+_, _-_, _≤_, _<_}
 use native.Mathlib.Omega.{arith}
 use native.Mathlib.Decide.{ℕ-discrete, decLt}
 use mathlib.Core.Path.{_≡_, refl, sym, ap, _∙_}
-use mathlib.Core.Logic.{_≢_, _↔_, _⊎_, inl, inr}
-use mathlib.Core.Bool.{Bool, true, false, true≢false}
+use mathlib.Core.Logic.{_≢_, _⊎_, inl, inr}
+use mathlib.Core.Bool.{true≢false}
 use mathlib.Core.List.{List, [], _∷_, List·Memᴰ, List·Memᴰ·head, List·Memᴰ·not-nil}
 use lib.Dec.{eqb}
-use lib.ListN.{length, set}
+use lib.ListN.{set}
 use borrow.Author.Tests.{eq-eqb, ne-eqb, eqb-true}
-use Rattle.meaning.specs.Following.{Rec, eq, app, At, Follows, flip, chain, given, congruent, Those}
+use Rattle.meaning.specs.Following.{Rec, eq, app, At, Follows, flip, chain, given, congruent}
 use Rattle.meaning.specs.Joins.{put}
 use Rattle.meaning.proofs.Close.{more}
 use Rattle.meaning.proofs.Log.{put-hit, put-miss}
@@ -19,15 +19,14 @@ use Rattle.table.specs.Map.{leftOf, rightOf, resultOf, labelOf, recAt, recordsI
 use Rattle.table.proofs.Frame.{seen-in, seen-within, length-gather, getD-gather, within-refl, within-trans, within-wider, within-set}
 use Rattle.table.proofs.Kept.{lefts, rights, results, loaded-same, records-same}
 use Rattle.table_labels.proofs.Rows.{at-rec, eq-parts, app-parts}
-use Rattle.list_ways.specs.Halves.{Picked, Outside}
+use Rattle.list_ways.specs.Halves.{Outside}
 use Rattle.list_ways.specs.Rings.{Apart, none}
 use Rattle.list_ways.specs.Adding.{Resting}
 use Rattle.list_ways.proofs.Adding.{rest-add, rest-closed, decides}
 use Rattle.list_ways.proofs.Rings.{grown-trail, grown-then, grown-up, grown-level}
-use Rattle.list_rings.specs.Links.{Standing}
 use Rattle.list_rings.proofs.Linking.{standing-classes}
 use Rattle.list_add.specs.State.{Filed, In, Rested}
-use Rattle.list_add.specs.Adding.{Steady, Adding, Added}
+use Rattle.list_add.specs.Adding.{Adding, Added}
 use Rattle.list_add.specs.Waking.{Line, end, next, Waits}
 use Rattle.list_add.specs.Busy.{InSet, App, Busy, Went}
 use Rattle.list_add.proofs.Wakes.{uses-same, others-same}

@@ -5,8 +5,8 @@ use native.Mathlib.Numerals.{add-one}
 use native.Mathlib.Decide.{ℕ-discrete}
 use mathlib.Core.Path.{_≡_, refl, sym, ap, _∙_}
 use mathlib.Core.Logic.{_≢_, _⊎_, inl, inr}
-use mathlib.Core.Bool.{Bool, true, false, cond, not}
-use mathlib.Core.List.{List, [], _∷_, _++_, List·Memᴰ·not-nil}
+use mathlib.Core.Bool.{Bool, true, false, not}
+use mathlib.Core.List.{List, [], _++_, List·Memᴰ·not-nil}
 use lib.ListN.{length, getD, set, take, drop, length-set}
 use Rattle.meaning.specs.Following.{same}
 use Rattle.meaning.specs.Joins.{put}
@@ -14,17 +14,16 @@ use Rattle.meaning.proofs.Log.{put-hit, put-miss}
 use Rattle.meaning.proofs.Reference.{Small}
 use Rattle.meaning.specs.Limits.{mostRecords, mostTags}
 use Rattle.table.specs.Places.{BEFORE, ENDS, EQUATION, FRONT, LABEL, Large, MEMBER, PRIOR, Part, QUEUE, Region, TAILS, TRAIL, WEIGHT, addPart, allOf, beforeAt, beforeHalved, endAt, frontSize, plain, usesPart, wipePart}
-use Rattle.table.specs.Map.{seen, leftOf, rightOf, resultOf, labelOf, recAt, Loaded, Within, beforeOf, endOf, placeOf}
-use Rattle.table.proofs.Frame.{ends-between, seen-at, seen-in, seen-out, seen-within, within-refl, within-trans, within-wider, within-set}
+use Rattle.table.specs.Map.{seen, leftOf, rightOf, resultOf, labelOf, recAt, Within, beforeOf, endOf, placeOf}
+use Rattle.table.proofs.Frame.{ends-between, seen-in, seen-out, seen-within, within-trans, within-wider, within-set}
 use Rattle.table.proofs.Kept.{lefts, rights, results, loaded-same}
 use Rattle.table_labels.specs.Parts.{Fills}
 use Rattle.table_labels.proofs.Views.{lent-within, lent-at, seen-zero}
-use Rattle.list_ways.specs.Adding.{Resting}
 use Rattle.list_ways.proofs.Rings.{grown-none}
 use Rattle.list_rings.specs.Links.{Standing, Scattered}
-use Rattle.list_add.specs.State.{argOf, On, here, later, In, Rested}
-use Rattle.list_add.specs.Waking.{Line, end, Waits}
-use Rattle.list_add.specs.Busy.{Busy, App}
+use Rattle.list_add.specs.State.{argOf, On, here, later, Rested}
+use Rattle.list_add.specs.Waking.{end}
+use Rattle.list_add.specs.Busy.{Busy}
 use Rattle.list_add.specs.Filing.{Used, Listing, Lists, Filing, Wiped, Begun}
 use Rattle.list_add.proofs.Looks.{small-tags}
 use Rattle.list_add.proofs.Adds.{busy-rested}

@@ -1,26 +1,24 @@
 -- One that waits is looked up: what is found has its argument labels, so their results are equal by the places that are in. Assumes nothing.
-use Prim.Native.Nat.{ℕ, suc, _+_, _-_, _≤_, _<_}
+use Prim.Native.Nat.{ℕ, suc, _-_, _≤_, _<_}
 use native.Mathlib.Omega.{arith}
 use native.Mathlib.Decide.{ℕ-discrete}
 use mathlib.Core.Path.{_≡_, refl, sym, ap, _∙_}
-use mathlib.Core.Logic.{_≢_, _⊎_, inl, inr}
-use mathlib.Core.Bool.{Bool, true, false, cond}
-use mathlib.Core.List.{List, [], _∷_, List·Memᴰ, List·Memᴰ·head, List·Memᴰ·tail}
-use lib.Dec.{eqb}
-use lib.ListN.{length, getD}
+use mathlib.Core.Logic.{_≢_}
+use mathlib.Core.Bool.{Bool, true, false}
+use mathlib.Core.List.{List, _∷_, List·Memᴰ, List·Memᴰ·head, List·Memᴰ·tail}
 use borrow.Author.Tests.{eq-eqb, ne-eqb}
-use Rattle.meaning.specs.Following.{Rec, eq, app, At, Follows, flip, chain, congruent, Those}
+use Rattle.meaning.specs.Following.{eq, app, Follows, flip, chain, congruent}
 use Rattle.meaning.proofs.Reference.{Small}
 use Rattle.meaning.specs.Limits.{mostRecords, mostTags}
 use Rattle.table.specs.Places.{EQUATION}
-use Rattle.table.specs.Map.{leftOf, rightOf, resultOf, labelOf, recAt, recordsIn, Loaded, memberOf, placeOf, queueOf}
+use Rattle.table.specs.Map.{leftOf, rightOf, resultOf, labelOf, recAt, memberOf, placeOf, queueOf}
 use Rattle.table.proofs.Frame.{length-gather, getD-gather}
 use Rattle.list_ways.specs.Rings.{Ring, Apart}
 use Rattle.list_ways.proofs.Rings.{Classes}
-use Rattle.list_rings.specs.Links.{Standing, Ringed}
+use Rattle.list_rings.specs.Links.{Ringed}
 use Rattle.list_rings.proofs.Linking.{standing-classes, ringed-of}
-use Rattle.list_add.specs.State.{argOf, On, Filed, In}
-use Rattle.list_add.specs.Waking.{Waits, Listed, Falling, Legible, Match, Sought, Around}
+use Rattle.list_add.specs.State.{argOf, In}
+use Rattle.list_add.specs.Waking.{Waits, Legible, Sought, Around}
 use Rattle.list_add.specs.Busy.{InSet, App, Busy, Fits, twin, alone, Twinned}
 use Rattle.list_add.proofs.Turns.{on-app, busy-falling, pop-low}
 

@@ -1,23 +1,19 @@
 -- Going round a ring to wake those that use its tags, and to look for one that matches. Assumes nothing.
-use Prim.Native.Nat.{ℕ, suc, _+_, _-_, _≤_, _<_}
+use Prim.Native.Nat.{ℕ, _-_, _≤_, _<_}
 use native.Mathlib.Omega.{arith}
-use native.Mathlib.Decide.{ℕ-discrete}
-use mathlib.Core.Path.{_≡_, refl, sym, ap, _∙_}
-use mathlib.Core.Logic.{_≢_, _↔_, _⊎_, inl, inr}
-use mathlib.Core.Bool.{Bool, true, false, true≢false}
-use mathlib.Core.List.{List, [], _∷_, List·Memᴰ, List·Memᴰ·head, List·Memᴰ·tail, List·Memᴰ·cases-cons, List·Memᴰ·not-nil}
-use lib.Dec.{eqb}
-use lib.ListN.{length}
-use borrow.Author.Tests.{eq-eqb, eqb-true}
-use Rattle.table.specs.Map.{seen, leftOf, rightOf, labelOf, Within, beforeOf, endOf, memberOf, placeOf, queueOf}
+use mathlib.Core.Path.{_≡_, refl, ap, _∙_}
+use mathlib.Core.Logic.{_≢_, _⊎_, inl, inr}
+use mathlib.Core.Bool.{Bool}
+use mathlib.Core.List.{List, List·Memᴰ, List·Memᴰ·tail, List·Memᴰ·cases-cons, List·Memᴰ·not-nil}
+use Rattle.table.specs.Map.{leftOf, rightOf, labelOf, Within, beforeOf, endOf, memberOf, placeOf, queueOf}
 use Rattle.table.proofs.Frame.{seen-within}
 use Rattle.list_ways.specs.Rings.{Path, Ahead, away}
 use Rattle.list_ways.proofs.Rings.{path-one}
 use Rattle.list_ways.proofs.Walking.{ahead-end, Next, ahead-next, away-next}
 use Rattle.list_rings.specs.Links.{Ringed}
 use Rattle.list_add.specs.State.{On, here, later}
-use Rattle.list_add.specs.Waking.{Waits, Listed, Falling, Woken, Awake, Roused, Legible, Match, Sought, Around}
-use Rattle.list_add.proofs.Wakes.{uses-same, others-same, falling-same, woken-none, woken-then}
+use Rattle.list_add.specs.Waking.{Falling, Woken, Awake, Roused, Legible, Match, Sought, Around}
+use Rattle.list_add.proofs.Wakes.{uses-same, others-same, woken-none, woken-then}
 use Rattle.meaning.specs.Limits.{mostRecords, mostTags}
 use Rattle.table.specs.Places.{MEMBER, QUEUE, allOf, frontSize}
 

@@ -1,38 +1,36 @@
 -- A join while places are added, and a place that need not wait any longer. Assumes nothing.
-use Prim.Native.Nat.{ℕ, suc, _+_, _-_, _*_, _≤_, _<_}
+use Prim.Native.Nat.{ℕ, suc, _+_, _-_, _≤_, _<_}
 use lib.Dec.{leb}
-use borrow.Author.Tests.{le-leb, lt-leb}
-use Rattle.meaning.specs.Joins.{count}
+use borrow.Author.Tests.{le-leb}
 use Rattle.meaning.proofs.Count.{count-low}
 use Rattle.meaning.proofs.Relabel.{count-less-one, into-hit, into-miss}
 use native.Mathlib.Omega.{arith}
 use native.Mathlib.Decide.{ℕ-discrete}
 use mathlib.Core.Path.{_≡_, refl, sym, ap, _∙_}
-use mathlib.Core.Logic.{_≢_, _↔_, _⊎_, inl, inr}
-use mathlib.Core.Bool.{Bool, true, false, cond}
+use mathlib.Core.Logic.{_≢_, _⊎_, inl, inr}
+use mathlib.Core.Bool.{Bool, true, false}
 use mathlib.Core.List.{List, [], _∷_, List·Memᴰ, List·Memᴰ·head, List·Memᴰ·tail, List·Memᴰ·cases-cons, List·Memᴰ·not-nil}
-use lib.ListN.{length, set}
-use Rattle.meaning.specs.Following.{Rec, Follows, Those}
+use lib.ListN.{set}
+use Rattle.meaning.specs.Following.{Rec, Follows}
 use Rattle.meaning.specs.Joins.{put}
 use Rattle.meaning.specs.Labels.{into}
 use Rattle.meaning.proofs.Close.{more}
 use Rattle.meaning.proofs.Log.{put-hit, put-miss}
 use Rattle.meaning.specs.Limits.{mostTags}
 use Rattle.table.specs.Places.{EQUATION, FRONT, LABEL, MEMBER, QUEUE, TRAIL, addPart, allOf, beforeAt, beforeHalved, endAt, frontSize, plain}
-use Rattle.table.specs.Map.{seen, leftOf, rightOf, resultOf, labelOf, recordsIn, Loaded, Within, beforeOf, endOf, memberOf, placeOf, queueOf, trailOf}
+use Rattle.table.specs.Map.{leftOf, rightOf, resultOf, labelOf, Within, beforeOf, endOf, memberOf, placeOf, queueOf, trailOf}
 use Rattle.table.proofs.Frame.{ends-between, seen-in, seen-within, within-refl, within-trans, within-wider, within-set}
 use Rattle.table.proofs.Kept.{lefts, rights, results, loaded-same, records-same}
-use Rattle.list_ways.specs.Halves.{Picked}
-use Rattle.list_ways.specs.Rings.{Ring, Apart, Grown, none}
+use Rattle.list_ways.specs.Rings.{Ring, Apart, none}
 use Rattle.list_ways.specs.Adding.{Resting, Uses}
 use Rattle.list_ways.proofs.Adding.{rest-join, rest-found, rest-new, sound-join}
-use Rattle.list_ways.proofs.Rings.{path-one, Classes, built-classes, grown-trail, grown-then, grown-up}
-use Rattle.list_rings.specs.Links.{Since, Standing, Ringed, Linked}
+use Rattle.list_ways.proofs.Rings.{path-one, grown-trail, grown-then, grown-up}
+use Rattle.list_rings.specs.Links.{Standing, Ringed, Linked}
 use Rattle.list_rings.proofs.Linking.{standing-classes, ringed-of}
-use Rattle.list_add.specs.State.{argOf, On, here, later, Filed, In}
+use Rattle.list_add.specs.State.{On, here, later, Filed, In}
 use Rattle.list_add.specs.Adding.{Steady}
-use Rattle.list_add.specs.Waking.{Line, end, next, Waits, Listed, Falling, Woken, Awake, Roused, Legible, Match, Sought, Around}
-use Rattle.list_add.specs.Busy.{InSet, App, Busy, Went, Fits, twin, alone, waiting, rank, Twinned, Turned}
+use Rattle.list_add.specs.Waking.{Line, end, next, Waits, Listed, Falling, Awake, Roused}
+use Rattle.list_add.specs.Busy.{InSet, App, Busy, Went, Fits, twin, alone, rank, Turned}
 use Rattle.list_add.proofs.Wakes.{uses-same, others-same, line-same, line-waits, line-once, line-same-in}
 
 -- A place on a list of uses is an application, where it was not left out.

@@ -4,14 +4,14 @@ use native.Mathlib.Omega.{arith}
 use native.Mathlib.Decide.{ℕ-discrete}
 use mathlib.Core.Path.{_≡_, refl, sym, ap, _∙_}
 use mathlib.Core.Logic.{_≢_, _⊎_, inl, inr}
-use mathlib.Core.Bool.{Bool, true, false, cond}
-use mathlib.Core.List.{List, [], _∷_, List·Memᴰ, List·Memᴰ·head, List·Memᴰ·tail, List·Memᴰ·cases-cons, List·Memᴰ·not-nil}
+use mathlib.Core.Bool.{Bool, true, false}
+use mathlib.Core.List.{List, _∷_, List·Memᴰ, List·Memᴰ·head, List·Memᴰ·tail, List·Memᴰ·cases-cons, List·Memᴰ·not-nil}
 use lib.ListN.{length, set}
 use Rattle.meaning.specs.Joins.{put}
 use Rattle.meaning.proofs.Log.{put-hit, put-miss}
 use Rattle.meaning.specs.Limits.{mostTags}
 use Rattle.table.specs.Places.{QUEUE, allOf, beforeAt, endAt, frontSize, plain}
-use Rattle.table.specs.Map.{seen, Within, beforeOf, endOf, queueOf}
+use Rattle.table.specs.Map.{Within, beforeOf, endOf, queueOf}
 use Rattle.table.proofs.Frame.{ends-between, seen-in, seen-within, within-refl, within-trans, within-set}
 use Rattle.list_add.specs.State.{On, here, later}
 use Rattle.list_add.specs.Waking.{Line, end, next, Waits, Listed, Falling, Woken, Awake}

@@ -2,12 +2,11 @@
 use Prim.Native.Nat.{ℕ, suc, _-_, _≤_, _<_}
 use mathlib.Core.Path.{_≡_}
 use mathlib.Core.Logic.{_≢_, _↔_}
-use mathlib.Core.Bool.{Bool, true, false, cond}
+use mathlib.Core.Bool.{Bool, cond}
 use mathlib.Core.List.{List}
-use Rattle.meaning.specs.Following.{Rec, Follows, Those}
-use Rattle.meaning.specs.Limits.{mostTags}
-use Rattle.table.specs.Places.{EQUATION, FRONT, QUEUE, beforeAt, endAt, frontSize, plain}
-use Rattle.table.specs.Map.{seen, leftOf, rightOf, resultOf, labelOf, recordsIn, Loaded, Within, beforeOf, endOf, placeOf, queueOf}
+use Rattle.meaning.specs.Following.{Follows, Those}
+use Rattle.table.specs.Places.{EQUATION, frontSize}
+use Rattle.table.specs.Map.{leftOf, rightOf, resultOf, labelOf, recordsIn, Loaded, beforeOf, endOf, placeOf, queueOf}
 use Rattle.list_ways.specs.Halves.{Picked}
 use Rattle.list_rings.specs.Links.{Standing}
 

@@ -5,7 +5,6 @@ use mathlib.Core.Path.{_≡_}
 use mathlib.Core.Logic.{_≢_, _⊎_}
 use mathlib.Core.Bool.{Bool}
 use mathlib.Core.List.{List, [], _∷_, List·Memᴰ}
-use lib.ListN.{length}
 use Rattle.table.specs.Map.{leftOf, rightOf, labelOf, Within, beforeOf, endOf, memberOf, placeOf, queueOf}
 use Rattle.list_ways.specs.Rings.{Path}
 use Rattle.list_add.specs.State.{On}

@@ -1,30 +1,28 @@
 -- What one half's round leaves: the labels come back, so what holds before it holds after it but for what was left out. Assumes nothing.
 use Prim.Native.Nat.{ℕ, suc, _+_, _-_, _≤_, _<_}
 use native.Mathlib.Omega.{arith}
-use native.Mathlib.Numerals.{add-one}
 use native.Mathlib.Decide.{ℕ-discrete, decLt}
 use mathlib.Core.Path.{_≡_, refl, sym, ap, _∙_, fun-ext}
-use mathlib.Core.Logic.{_≢_, _↔_, _⊎_, inl, inr}
-use mathlib.Core.Bool.{Bool, true, false, cond, true≢false}
+use mathlib.Core.Logic.{_≢_, _⊎_, inl, inr}
+use mathlib.Core.Bool.{Bool, true, false, true≢false}
 use mathlib.Core.List.{List}
 use lib.Dec.{eqb}
-use lib.ListN.{length, set}
+use lib.ListN.{set}
 use borrow.Author.Tests.{eq-eqb, eqb-true}
-use Rattle.meaning.specs.Following.{Rec, Follows, Those}
+use Rattle.meaning.specs.Following.{Rec, Those}
 use Rattle.meaning.specs.Joins.{put}
 use Rattle.meaning.proofs.Close.{more}
 use Rattle.meaning.proofs.Log.{put-hit, put-miss}
 use Rattle.meaning.specs.Limits.{mostTags}
 use Rattle.table.specs.Places.{ENDS, EQUATION, FRONT, LABEL, LIST, Large, MEMBER, Part, QUEUE, TRAIL, addPart, beforeAt, beforeHalved, endAt, fromTo, frontSize, halvePart, plain}
-use Rattle.table.specs.Map.{seen, leftOf, rightOf, resultOf, labelOf, recordsIn, Loaded, Within, beforeOf, endOf, memberOf, placeOf, queueOf, trailOf}
+use Rattle.table.specs.Map.{seen, resultOf, labelOf, recordsIn, Within, beforeOf, endOf, memberOf, placeOf, queueOf, trailOf}
 use Rattle.table.proofs.Frame.{ends-between, seen-in, seen-within, within-refl, within-trans, within-wider, within-set}
 use Rattle.table.proofs.Kept.{lefts, rights, results, loaded-same, records-same}
-use Rattle.list_ways.specs.Rings.{Grown}
-use Rattle.list_ways.specs.Halves.{Picked, Outside, Every, Halved}
-use Rattle.list_ways.proofs.Halves.{picked-more, halved-none, halved-one, halved-both}
+use Rattle.list_ways.specs.Halves.{Picked, Outside, Every}
+use Rattle.list_ways.proofs.Halves.{halved-none, halved-one, halved-both}
 use Rattle.list_ways.proofs.Rings.{grown-trail, grown-up}
 use Rattle.list_rings.specs.Links.{Since, Standing, Returned}
-use Rattle.list_add.specs.State.{On, Filed, In, Rested}
+use Rattle.list_add.specs.State.{Filed, In, Rested}
 use Rattle.list_add.specs.Adding.{Steady, Adding, Added}
 use Rattle.list_add.specs.Filing.{Listing, Begun}
 use Rattle.list_halve.specs.Halving.{Backed, Ready, Done, Blanked, Sifting, Sifted, Entailing}

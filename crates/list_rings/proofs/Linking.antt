@@ -2,22 +2,22 @@
 use Prim.Native.Nat.{ℕ, suc, _+_, _≤_, _<_}
 use native.Mathlib.Omega.{arith}
 use native.Mathlib.Decide.{ℕ-discrete, decLt}
-use mathlib.Core.Path.{_≡_, refl, sym, ap, _∙_, fun-ext}
+use mathlib.Core.Path.{_≡_, refl, ap, _∙_, fun-ext}
 use mathlib.Core.Logic.{_≢_, _⊎_, inl, inr}
 use mathlib.Core.Bool.{cond}
-use mathlib.Core.List.{List, [], _∷_, List·Memᴰ, List·Memᴰ·head, List·Memᴰ·tail, List·Memᴰ·cases-cons, List·Memᴰ·not-nil}
+use mathlib.Core.List.{List, _∷_, List·Memᴰ, List·Memᴰ·head, List·Memᴰ·tail, List·Memᴰ·cases-cons, List·Memᴰ·not-nil}
 use lib.Dec.{eqb}
-use lib.ListN.{length, set, length-set}
+use lib.ListN.{set, length-set}
 use borrow.Author.Tests.{eq-eqb, ne-eqb}
 use Rattle.meaning.specs.Joins.{put}
 use Rattle.meaning.specs.Labels.{into}
 use Rattle.meaning.proofs.Log.{put-hit, put-miss}
 use Rattle.meaning.specs.Limits.{mostTags}
 use Rattle.table.specs.Places.{LABEL, Large, MEMBER, TRAIL, WEIGHT, allOf, classPart, linkPart, ringPart}
-use Rattle.table.specs.Map.{seen, labelOf, Within, memberOf, trailOf}
+use Rattle.table.specs.Map.{labelOf, Within, memberOf, trailOf}
 use Rattle.table.proofs.Frame.{seen-past, seen-in, seen-out, seen-within, within-refl, within-trans, within-wider, within-set}
-use Rattle.list_ways.specs.Rings.{Path, Ring, Apart, Grown, none, more, Built, swapped, Ahead, away}
-use Rattle.list_ways.proofs.Rings.{path-one, ring-alone, swap-twice, swap-x, parted, joined-x, joined-else, Classes, grown-classes, built-classes, grown-trail, grown-then, grown-none, grown-up, Last, grown-last}
+use Rattle.list_ways.specs.Rings.{Path, Ring, Apart, none, more, swapped, Ahead, away}
+use Rattle.list_ways.proofs.Rings.{path-one, ring-alone, swap-twice, parted, joined-x, Classes, grown-classes, built-classes, grown-trail, grown-then, grown-none, Last, grown-last}
 use Rattle.list_ways.proofs.Walking.{ahead-end, Next, ahead-next, away-next, ahead-start, built-room}
 use Rattle.list_rings.specs.Links.{Since, Standing, Ringed, Named, Exchanged, Lone, Scattered, Linked, Unlinked, Returned}
 

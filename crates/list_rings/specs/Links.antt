@@ -4,13 +4,12 @@ use Prim.Native.Nat.{ℕ, suc, _≤_, _<_}
 use mathlib.Core.Path.{_≡_}
 use mathlib.Core.Logic.{_≢_}
 use mathlib.Core.List.{List, _∷_, List·Memᴰ}
-use lib.ListN.{length}
 use Rattle.meaning.specs.Joins.{put}
 use Rattle.meaning.specs.Labels.{into}
 use Rattle.meaning.specs.Limits.{mostTags}
-use Rattle.table.specs.Places.{LABEL, Large, MEMBER, TRAIL, allOf, classPart, linkPart, ringPart}
-use Rattle.table.specs.Map.{seen, labelOf, Within, memberOf, trailOf}
-use Rattle.list_ways.specs.Rings.{Path, Apart, Grown, Built, swapped, Ahead}
+use Rattle.table.specs.Places.{LABEL, Large, allOf, classPart, linkPart, ringPart}
+use Rattle.table.specs.Map.{labelOf, Within, memberOf, trailOf}
+use Rattle.list_ways.specs.Rings.{Path, Grown, Built, swapped, Ahead}
 
 -- From table to table, join number k and later up to number k′ were made; and k joins were made in all.
 abbrev pub Since : (ℕ → ℕ) → ℕ → List ℕ → ℕ → List ℕ → Type 0

@@ -2,10 +2,9 @@
 -- result label, or if there is none with its argument labels. Where none waits the labels are closed. Assumes nothing.
 use Prim.Native.Nat.{ℕ}
 use native.Mathlib.Decide.{ℕ-discrete}
-use mathlib.Core.Path.{_≡_, refl, sym, ap, _∙_}
-use mathlib.Core.Logic.{_≢_, _⊎_, inl, inr}
-use mathlib.Core.List.{List}
-use Rattle.meaning.specs.Following.{Rec, eq, app, Follows, Those, same, flip, chain}
+use mathlib.Core.Path.{_≡_, sym, ap, _∙_}
+use mathlib.Core.Logic.{_≢_, inl, inr}
+use Rattle.meaning.specs.Following.{Rec, eq, app, Follows, flip, chain}
 use Rattle.meaning.specs.Labels.{into}
 use Rattle.meaning.proofs.Close.{Closed, complete}
 use Rattle.meaning.proofs.Relabel.{into-hit, into-miss}

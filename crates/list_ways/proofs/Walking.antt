@@ -3,19 +3,19 @@ use Prim.Native.Nat.{ℕ, zero, suc, _+_, _≤_, _<_}
 use native.Mathlib.Omega.{arith}
 use native.Mathlib.Decide.{ℕ-discrete, decLt}
 use mathlib.Core.Path.{_≡_, refl, sym, ap, _∙_}
-use mathlib.Core.Logic.{_≢_, _⊎_, inl, inr}
-use mathlib.Core.Bool.{Bool, true, false, _||_}
-use mathlib.Core.List.{List, [], _∷_, List·Memᴰ, List·Memᴰ·head, List·Memᴰ·tail, List·Memᴰ·cases-cons, List·Memᴰ·not-nil}
-use lib.Dec.{T, eqb}
+use mathlib.Core.Logic.{_≢_}
+use mathlib.Core.Bool.{Bool, true, false}
+use mathlib.Core.List.{List, [], _∷_, List·Memᴰ, List·Memᴰ·head, List·Memᴰ·tail}
+use lib.Dec.{eqb}
 use lib.ListN.{length}
 use borrow.Author.Tests.{eq-eqb, ne-eqb}
 use Rattle.meaning.specs.Joins.{count}
 use Rattle.meaning.specs.Labels.{into, classes}
 use Rattle.meaning.proofs.Count.{count-low}
-use Rattle.meaning.proofs.Relabel.{count-less-one, into-hit, into-miss}
+use Rattle.meaning.proofs.Relabel.{count-less-one}
 use Rattle.meaning.proofs.Short.{among, among-in}
-use Rattle.list_ways.specs.Rings.{Path, stop, step, Ring, Apart, Grown, none, more, Built, Ahead, away}
-use Rattle.list_ways.proofs.Rings.{path-once, Classes, joined-x, joined-else}
+use Rattle.list_ways.specs.Rings.{Path, stop, step, Ring, Apart, none, more, Built, Ahead, away}
+use Rattle.list_ways.proofs.Rings.{path-once, joined-x, joined-else}
 
 pub record Next (N x : ℕ) (m : ℕ → ℕ) (z : ℕ) (R : List ℕ) : Type 0 where
   pub rest : List ℕ

@@ -1,22 +1,21 @@
 -- What was not left out comes to the front; and from what waits to what is kept. Assumes nothing.
-use Prim.Native.Nat.{ℕ, suc, _+_, _-_, _≤_, _<_}
+use Prim.Native.Nat.{ℕ, suc, _+_, _≤_, _<_}
 use native.Mathlib.Omega.{arith}
 use native.Mathlib.Decide.{ℕ-discrete}
 use mathlib.Core.Path.{_≡_, refl, sym, _∙_, ap}
-use mathlib.Core.Logic.{_≢_, _⊎_, inl, inr}
+use mathlib.Core.Logic.{_≢_, inl, inr}
 use mathlib.Core.List.{List, List·Memᴰ}
-use lib.ListN.{length, set}
+use lib.ListN.{set}
 use Rattle.meaning.specs.Following.{Rec, Follows, Those, Only, Without}
 use Rattle.meaning.specs.Joins.{put}
 use Rattle.meaning.proofs.Close.{more}
 use Rattle.meaning.proofs.Log.{put-hit, put-miss}
 use Rattle.table.specs.Places.{FRONT, LABEL, LIST, Large, PARENT, beforeHalved, fromTo, frontPart, frontSize, scratch, waitingAt}
 use Rattle.table.specs.Map.{listOf, listIn, recordsIn, Within, placeOf}
-use Rattle.table.proofs.Frame.{seen-at, seen-in, seen-within, gather-in, in-gather, within-refl, within-trans, within-wider, within-set}
+use Rattle.table.proofs.Frame.{seen-at, seen-in, gather-in, in-gather, within-refl, within-trans, within-wider, within-set}
 use Rattle.table.proofs.Kept.{records-same, loaded-same}
-use Rattle.list_ways.specs.Halves.{Picked, Every, Halved}
+use Rattle.list_ways.specs.Halves.{Picked, Every}
 use Rattle.list_ways.proofs.Halves.{halved-list}
-use Rattle.list_add.specs.Filing.{Listing}
 use Rattle.list_halve.specs.Halving.{Sifting, Sifted}
 use Rattle.reason_list.specs.Listing.{waitingIn}
 use Rattle.reason_trim.specs.Trimming.{Copied, Moved, Together, Pruned, Followed}

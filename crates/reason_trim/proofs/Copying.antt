@@ -5,7 +5,7 @@ use native.Mathlib.Decide.{ℕ-discrete}
 use mathlib.Core.Path.{_≡_, refl, _∙_}
 use mathlib.Core.Logic.{_≢_, _⊎_, inl, inr}
 use mathlib.Core.List.{List}
-use lib.ListN.{length, set}
+use lib.ListN.{set}
 use Rattle.table.specs.Map.{listOf}
 use Rattle.table.proofs.Frame.{within-refl, within-trans, within-set}
 use Rattle.reason_list.proofs.Gathering.{list-hit, list-miss}

@@ -3,7 +3,7 @@ use borrow.Author.Needs.{needs}
 use borrow.Author.Tests.{eqb-false, eqb-true}
 use native.Mathlib.Omega.{arith}
 use mathlib.Core.Path.{refl, sym, ap, _∙_}
-use Rattle.table.specs.Map.{leftOf, rightOf, labelOf}
+use Rattle.table.specs.Map.{labelOf}
 use Rattle.list_add.proofs.Turns.{went-same, went-then}
 use Rattle.list_add.proofs.Adds.{equation-busy, equation-tags, equation-apart, equation-follows, equation-level, equation-added, side-left, side-right}
 use Rattle.list_add.proofs.add_equation.Statement.{statement}

@@ -1,5 +1,4 @@
 -- `begin` meets its contract. Assumes nothing.
-use native.Mathlib.Omega.{arith}
 use Rattle.list_add.proofs.Files.{filing-start, begun}
 use Rattle.list_add.proofs.begin.Statement.{statement}
 use Rattle.list_add.proofs.begin.Tie as tie

@@ -1,11 +1,9 @@
 -- `matches` meets its contract. Assumes nothing.
 use borrow.Author.Needs.{needs}
-use native.Mathlib.Omega.{arith}
-use mathlib.Core.Path.{_≡_, refl, sym, _∙_, ap}
+use mathlib.Core.Path.{sym, _∙_}
 use mathlib.Core.Bool.{true≢false}
 use denote.Ref.{now}
 use borrow.Author.Tests.{eq-eqb, eqb-false, eqb-true, not-false, not-true}
-use Rattle.list_add.specs.Waking.{Match, Legible}
 use Rattle.list_add.proofs.Seeks.{legible-left, legible-right, legible-place, match-left, match-right}
 use Rattle.list_add.proofs.matches.Statement.{statement}
 use Rattle.list_add.proofs.matches.Tie as tie

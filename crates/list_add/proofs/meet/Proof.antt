@@ -1,12 +1,10 @@
 -- `meet` meets its contract. Assumes nothing.
 use borrow.Author.Needs.{needs}
 use borrow.Author.Tests.{eqb-false, eqb-true}
-use Prim.Native.Nat.{suc, _-_, _<_}
+use Prim.Native.Nat.{_-_}
 use native.Mathlib.Omega.{arith}
 use mathlib.Core.Path.{_≡_, sym, _∙_}
-use mathlib.Core.Logic.{_≢_}
 use denote.Ref.{now}
-use Rattle.list_add.specs.Busy.{Fits, twin}
 use Rattle.list_add.proofs.Turns.{pop-low}
 use Rattle.list_add.proofs.Looks.{tags-of, waits-in, waits-app, twins-follow, labels-apart, match-result, twinned-fits}
 use Rattle.list_add.proofs.meet.Statement.{statement}

@@ -2,7 +2,6 @@
 use borrow.Author.Needs.{needs}
 use borrow.Author.Tests.{eqb-false, eqb-true, not-false, not-true}
 use mathlib.Core.Path.{sym, _∙_}
-use native.Mathlib.Omega.{arith}
 use Rattle.list_ways.specs.Rings.{away}
 use Rattle.list_add.proofs.Seeks.{Searching, searching-start, searching-tag, searching-more, searching-found, searching-end}
 use Rattle.list_add.proofs.seek_class.Statement.{statement}

@@ -1,6 +1,5 @@
 -- `settle` meets its contract: with each step the rank falls. Assumes nothing.
 use native.Mathlib.Omega.{arith}
-use mathlib.Core.Path.{_≡_, sym}
 use Rattle.list_add.specs.Busy.{Busy, Went, rank}
 use Rattle.list_add.proofs.Turns.{went-same, went-then, turned-busy, turned-end}
 use Rattle.list_add.proofs.settle.Statement.{statement}

@@ -1,7 +1,5 @@
 -- `step` meets its contract. Assumes nothing.
-use Prim.Native.Nat.{suc, _-_, _<_}
 use native.Mathlib.Omega.{arith}
-use mathlib.Core.Path.{_≡_}
 use Rattle.list_add.proofs.step.Statement.{statement}
 use Rattle.list_add.proofs.step.Tie as tie
 

@@ -1,10 +1,6 @@
 -- `twin` meets its contract. Assumes nothing.
-use native.Mathlib.Omega.{arith}
-use mathlib.Core.Path.{_≡_, sym, ap, _∙_}
 use mathlib.Core.Bool.{true, false}
 use denote.Ref.{now}
-use Rattle.table.specs.Map.{leftOf, rightOf, labelOf}
-use Rattle.list_add.specs.State.{In}
 use Rattle.list_add.proofs.Turns.{pop-low}
 use Rattle.list_add.proofs.Seeks.{match-left, match-right}
 use Rattle.list_add.proofs.Looks.{tags-of, waits-in, busy-legible, label-low, label-ringed, twinned}

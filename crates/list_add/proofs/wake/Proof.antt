@@ -1,5 +1,4 @@
 -- `wake` meets its contract. Assumes nothing.
-use borrow.Author.Needs.{needs}
 use native.Mathlib.Omega.{arith}
 use mathlib.Core.Path.{refl, sym, _∙_}
 use Rattle.list_add.proofs.Wakes.{woken-none, woken-one}

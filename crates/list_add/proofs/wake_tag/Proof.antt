@@ -1,5 +1,4 @@
 -- `wake_tag` meets its contract. Assumes nothing.
-use native.Mathlib.Omega.{arith}
 use Rattle.list_add.proofs.Wakes.{falling-same, awake-both}
 use Rattle.list_add.proofs.wake_tag.Statement.{statement}
 use Rattle.list_add.proofs.wake_tag.Tie as tie

@@ -1,7 +1,6 @@
 -- `weigh_each` meets its contract: only weights are written. Assumes nothing.
-use Prim.Native.Nat.{_-_, _≤_}
+use Prim.Native.Nat.{_-_}
 use native.Mathlib.Omega.{arith}
-use native.Mathlib.Numerals.{add-one}
 use Rattle.table.specs.Map.{Within}
 use Rattle.table.proofs.Frame.{within-refl, within-trans}
 use Rattle.list_add.specs.Filing.{Filing}

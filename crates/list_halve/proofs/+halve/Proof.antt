@@ -1,7 +1,7 @@
 -- `halve` meets its contract: one half is added, the other halved, and back; then the other way round. The measure is the number of places. Assumes nothing.
-use Prim.Native.Nat.{ℕ, suc, _+_, _-_, _≤_, _<_}
+use Prim.Native.Nat.{ℕ, _-_, _<_}
 use native.Mathlib.Omega.{arith}
-use mathlib.Core.Path.{_≡_, refl, sym, _∙_}
+use mathlib.Core.Path.{refl}
 use borrow.Fn.Kinds.{In}
 use borrow.Fn.PlainCycle.{Measures, is, falls, and}
 use Rattle.list_halve.proofs.Steps.{parts-first, parts-second, adding-of, ready-add, done-standing, done-up, round-done, ready-done, done-both, done-none, done-one}

@@ -1,7 +1,7 @@
 -- `back` meets its contract: each turn takes back the last join. Assumes nothing.
 use Prim.Native.Nat.{suc, _-_}
 use native.Mathlib.Omega.{arith}
-use mathlib.Core.Path.{_≡_, sym}
+use mathlib.Core.Path.{_≡_}
 use Rattle.list_rings.proofs.back.Statement.{statement}
 use Rattle.list_rings.proofs.back.Tie as tie
 use Rattle.list_rings.proofs.Linking.{Returning, returning-start, returning-more, returning-end}

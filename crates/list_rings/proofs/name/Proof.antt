@@ -1,8 +1,7 @@
 -- `name` meets its contract: each turn labels one more, on the way back to x. Assumes nothing.
 use borrow.Author.Needs.{needs}
 use borrow.Author.Tests.{eqb-false, eqb-true, not-false, not-true}
-use native.Mathlib.Omega.{arith}
-use mathlib.Core.Path.{sym, _∙_, ap}
+use mathlib.Core.Path.{sym, _∙_}
 use Rattle.list_ways.specs.Rings.{away}
 use Rattle.list_rings.proofs.name.Statement.{statement}
 use Rattle.list_rings.proofs.name.Tie as tie

@@ -1,5 +1,4 @@
 -- `part` meets its contract: the rings are parted by the same exchange, and the ring of x gets its label back. Assumes nothing.
-use native.Mathlib.Omega.{arith}
 use Rattle.list_rings.proofs.part.Statement.{statement}
 use Rattle.list_rings.proofs.part.Tie as tie
 use Rattle.list_rings.proofs.Linking.{part-room, part-tag, part-other, part-ringed, unlinked}

@@ -1,5 +1,4 @@
 -- `part_off` meets its contract: three stores. Assumes nothing.
-use native.Mathlib.Omega.{arith}
 use lib.ListN.{length-set}
 use borrow.Author.Needs.{needs}
 use Rattle.list_rings.proofs.part_off.Statement.{statement}

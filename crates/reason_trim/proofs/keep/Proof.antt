@@ -4,7 +4,6 @@ use borrow.Author.Tests.{eqb-false, eqb-true}
 use native.Mathlib.Omega.{arith}
 use native.Mathlib.Numerals.{add-one}
 use mathlib.Core.Path.{refl, sym, _∙_}
-use mathlib.Core.Logic.{_≢_}
 use denote.Ref.{now}
 use Rattle.reason_trim.proofs.Closing.{place-list}
 use Rattle.reason_trim.proofs.keep.Statement.{statement}
