@@ -7,14 +7,13 @@ use mathlib.Core.Path.{_≡_, ap}
 use mathlib.Core.Logic.{_≢_, _↔_, inl, inr}
 use mathlib.Core.Bool.{Bool, true, false}
 use mathlib.Core.List.{List, [], _∷_, List·Memᴰ, List·Memᴰ·append-cases, List·Memᴰ·cases-cons, List·Memᴰ·eq-of-singleton, List·Memᴰ·not-nil, Memᴰ·append-left, Memᴰ·append-right}
-use lib.Dec.{T}
 use lib.ListN.{length, getD}
 use Rattle.meaning.specs.Following.{Rec, eq}
 use Rattle.meaning.specs.Reasons.{Reason}
-use Rattle.meaning.specs.Joins.{Join, Supported, numbersOf, keep, used, all}
+use Rattle.meaning.specs.Joins.{Join, numbersOf, keep, used, all}
 use Rattle.meaning.specs.Trim.{Trimmed}
 use Rattle.meaning.specs.Walk.{Walked}
-use Rattle.meaning.specs.Needed.{Aim, tags, Needed}
+use Rattle.meaning.specs.Needed.{tags}
 use Rattle.meaning.proofs.Log.{linked-follows}
 use Rattle.meaning.proofs.Needed.{used-up}
 use Rattle.meaning.proofs.Reference.{Small}
@@ -28,15 +27,14 @@ use Rattle.table.specs.Past.{Past, ageAfter}
 use Rattle.table.specs.Places.{LIST, Part, scratch, spare}
 use Rattle.moment.specs.Meeting.{Met}
 use Rattle.moment.specs.Holding.{Holds, marked}
-use Rattle.reason_follow.specs.Ways.{followPart}
-use Rattle.reason_follow.specs.Tracing.{Together, Unfollowed, Traced, Unmarked}
+use Rattle.reason_follow.specs.Tracing.{Together, Traced, Unmarked, Unfollowed}
 use Rattle.moment.proofs.Kept.{kept-records, kept-joins, kept-past, kept-loaded, kept-marks}
+use Rattle.reason_follow.specs.Ways.{followPart}
 use Rattle.moment.proofs.Known.{join-one, join-two}
 use Rattle.moment.proofs.Moments.{met-first, met-join, met-later, met-never, made-by}
 use Rattle.reason_follow.proofs.Crossing.{kept-leader, unmarked-supported}
 use Rattle.reason_list.specs.Listing.{waitingIn, Gathered}
 use Rattle.reason_trim.specs.Trimming.{Pruned, Followed}
-use Rattle.reason_spare.specs.Comparing.{Comparing}
 use Rattle.reason_order.specs.Rising.{Numbered, Sorted}
 use Rattle.reason.specs.Explaining.{Question, Explained, Joining, Reasoned}
 use Rattle.reason.specs.declared.Answer.the-variants.{Because, Apart}
@@ -91,16 +89,6 @@ small-records {N} {len} {w} h i l =
     let k : i < len = rw (length-gather (λ j. recAt w (suc j)) len) at l in
     rw (getD-gather (λ j. recAt w (suc j)) len i (eq 0 0) k) (h .small i k)
 
--- What is said of joins and marks, said of equal ones.
-supported-at : {rs rs′ : List Rec} {e e′ : ℕ → Join} {m m′ : ℕ → Bool} {n : ℕ} → rs ≡ rs′ → e ≡ e′ → m ≡ m′ → Supported rs′ e′ m′ n → Supported rs e m n
-supported-at p q r h = rw (p, q, r) h
-
-needed-at : {rs rs′ : List Rec} {e e′ : ℕ → Join} {m m′ : ℕ → Bool} {n : ℕ} {aim : Aim} → rs ≡ rs′ → e ≡ e′ → m ≡ m′ → ((a : ℕ) → a < n → T (m′ a) → Needed rs′ e′ aim a) → (a : ℕ) → a < n → T (m a) → Needed rs e aim a
-needed-at p q r h = rw (p, q, r) h
-
-used-at : {e e′ : ℕ → Join} {m m′ : ℕ → Bool} (n : ℕ) {k : ℕ} {L : List ℕ} → e ≡ e′ → m ≡ m′ → List·Memᴰ k (used e′ m′ n) ↔ List·Memᴰ k L → List·Memᴰ k (used e m n) ↔ List·Memᴰ k L
-used-at n p q h = rw (p, q) h
-
 wide : {p : Part} {w w′ : List ℕ} → LIST .at ≤ p .from → p .upto ≤ spare → Within p w w′ → Within scratch w w′
 wide l m f = within-wider scratch l m f
 
@@ -136,12 +124,6 @@ module _ {N len n s t b : ℕ} {w : List ℕ} (J : Joining N len n s t b w) wher
       walked : Walked (recordsIn len w) (joinAt w) n (marked w₁) (marked w₂) (suc b) s t
       walked = rw (kept-records frame₁ len, kept-joins frame₁) at (X .walked N len n (kept-past frame₁ (J .past)) (J .join) (unmarked-supported (recordsIn len w₁) (joinAt w₁) U))
 
-      needed : (a : ℕ) → T (marked w₂ a) → a < suc b → Needed (recordsIn len w) (joinAt w) (tags s t) a
-      needed a h l = elim (X .needed N len n (kept-past frame₁ (J .past)) (J .join) a h) [
-        | inl i ↦ absurd (rw (U .none a (omega (arith, J .join))) at i)
-        | inr i ↦ rw (kept-records frame₁ len, kept-joins frame₁) at i
-      ]
-
       module _ {w₃ : List ℕ} {m : ℕ} (G : Gathered w₂ w₃ (suc b) m) where
         frame₃ : Within scratch w w₃
         frame₃ = within-trans frame₂ (wide (omega arith) (omega arith) (G .kept))
@@ -152,7 +134,7 @@ module _ {N len n s t b : ℕ} {w : List ℕ} (J : Joining N len n s t b w) wher
         named : (k : ℕ) → List·Memᴰ k (waitingIn m w₃) → (1 ≤ k) × (k ≤ whenOf w b)
         named k i = used-within (J .past) (marked w₂) b (J .join) k (same k .1 i)
 
-        followed : Followed N len s t w₃ m
+        pub followed : Followed N len s t w₃ m
         followed = record {
           loaded = kept-loaded frame₃ (J .past .loaded);
           s-tag = J .s-tag;
@@ -161,20 +143,6 @@ module _ {N len n s t b : ℕ} {w : List ℕ} (J : Joining N len n s t b w) wher
           named = λ k i. let h = named k i in (h .0, omega (arith, h .1, J .past .made b (J .join) .1));
           entails = rw (kept-records frame₃ len) (linked-follows (recordsIn len w) (joinAt w) (marked w₂) (λ k. List·Memᴰ k (waitingIn m w₃)) (suc b)
               (λ a l. walked .supported a (omega (arith, J .join))) (λ k. same k .0) s t (walked .linked));
-        }
-
-        marks : marked w₃ ≡ marked w₂
-        marks = kept-marks (G .kept)
-
-        pub asks-prune : Comparing N len (suc b) m s t w₃
-        asks-prune = record {
-          followed = followed;
-          joins = n;
-          past = kept-past frame₃ (J .past);
-          reach = J .join;
-          supported = supported-at (kept-records frame₃ len) (kept-joins frame₃) marks (λ a l. walked .supported a (omega (arith, J .join)));
-          needed = needed-at (kept-records frame₃ len) (kept-joins frame₃) marks (λ a l h. needed a h l);
-          same = λ k. used-at (suc b) (kept-joins frame₃) marks (same k);
         }
 
         module _ {w₄ : List ℕ} {kept : ℕ} (Q : Pruned N len s t w₃ w₄ m kept) where

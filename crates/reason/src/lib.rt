@@ -1,6 +1,6 @@
 // Reasons: for two tags that are equal by the records before a question, a list of record numbers that is a reason. Document 01,
 // "Reasons". Rests on moment, which finds the newest join between the tags, on reason_follow, which marks that join and all it rests on, on
-// reason_list, which lists their records, on reason_spare, which takes out the spare ones, on reason_order, which puts the others in order, and on table.
+// reason_list, which lists their records, on reason_trim, which takes out the spare ones, on reason_order, which puts the others in order, and on table.
 ghost use Prim.Native.Nat.{ℕ, _≤_, _<_};
 ghost use Rattle.reason.specs.Explaining.{Question, Explained, Joining, Reasoned};
 use meaning::Tag;
@@ -27,7 +27,7 @@ fn reason(
     reason_follow::unmark_all(work, joins);
     reason_follow::trace(work, s, t, b + 1);
     let n = reason_list::list_marked(work, b + 1);
-    let kept = reason_spare::prune(work, size, len, b + 1, n, s, t);
+    let kept = reason_trim::trim(work, size, len, n, s, t);
     reason_order::put_rising(work, len, kept)
 }
 

@@ -1,85 +1,33 @@
--- Exchanging two places keeps the set of a list's numbers, and another order is the same list to every test. Trimming takes no number out
--- exactly if none can be spared. Assumes nothing.
+-- Trimming takes no number out of a list exactly if none can be spared. Assumes nothing.
 use Prim.Native.Nat.{ℕ, _+_, _≤_, _<_}
 use native.Mathlib.Omega.{arith}
 use native.Mathlib.Numerals.{add-one}
-use native.Mathlib.Decide.{ℕ-discrete}
-use mathlib.Core.Path.{_≡_, refl, sym, _∙_, subst}
+use mathlib.Core.Path.{_≡_, refl, sym, ap, _∙_}
 use mathlib.Core.Logic.{_↔_, inl}
 use mathlib.Core.Bool.{Bool, true, false}
 use mathlib.Core.List.{List, List·Memᴰ}
 use lib.Dec.{eqb}
-use lib.ListN.{length, set}
-use Rattle.meaning.specs.Following.{Rec}
-use Rattle.meaning.specs.Joins.{put}
+use lib.ListN.{set}
+use Rattle.meaning.specs.Following.{Follows, Only}
 use Rattle.meaning.proofs.Close.{more-of}
-use Rattle.meaning.proofs.Log.{put-hit, put-miss}
 use Rattle.meaning.proofs.Rising.{take-out, rising-short}
 use Rattle.meaning.proofs.Short.{decAmong}
-use Rattle.table.specs.Map.{listOf, listIn, recordsIn, gather, Within}
-use Rattle.table.proofs.Frame.{seen-in, seen-within, within-refl, within-trans, within-wider, within-set, length-gather, gather-same, gather-in, in-gather}
-use Rattle.list_close.specs.Closing.{Listed, Entailing}
+use Rattle.table.specs.Map.{listOf, listIn, recordsIn, placeOf, Within}
+use Rattle.table.proofs.Frame.{seen-within, within-refl, within-trans, within-wider, within-set, length-gather, gather-same, gather-in, in-gather}
+use Rattle.list_ways.specs.Halves.{Picked, Every}
+use Rattle.list_add.specs.Filing.{Listing}
+use Rattle.list_halve.specs.Halving.{Entailing}
 use Rattle.reason_list.specs.Listing.{waitingIn}
 use Rattle.reason_trim.specs.Trimming.{Followed, Pruned}
+use Rattle.reason_trim.proofs.Closing.{place-list}
 use Rattle.reason_order.specs.Rising.{Numbered, Sorted}
 use Rattle.reason_list.proofs.Gathering.{list-hit, list-miss}
 use Rattle.moment.proofs.Kept.{kept-records, kept-loaded, kept-past}
 use Rattle.meaning.proofs.Tests.{is-not, is-so}
-use Rattle.meaning.specs.Limits.{mostRecords}
-use Rattle.table.specs.Places.{LIST, Large, allOf, fromTo, scratch, waitingAt}
+use Rattle.table.specs.Places.{FRONT, LIST, Large, allOf, fromTo, mostWaiting, scratch, waitingAt}
 use Rattle.moment.specs.declared.Question.{Question}
 use Rattle.moment.specs.Posed.{Posed, Deciding}
-use Rattle.reason_test.specs.Lists.{Swap, Swapped, Arranged, Moved, Named, Serving, Entailed, NoneSpare, Sufficient}
-
--- Exchanging.
-pub swap-back : {f g : ℕ → ℕ} {i j : ℕ} → Swap f g i j → Swap g f i j
-swap-back h = record { near = sym (h .far); far = sym (h .near); other = λ x p q. sym (h .other x p q) }
-
-module _ {f g : ℕ → ℕ} {i j n : ℕ} (h : Swap f g i j) (l : i < n) (m : j < n) where
-  -- The place that the number at a place came from.
-  come : (a : ℕ) → a < n → (p : ℕ) × (p < n) × (f p ≡ g a)
-  come a k = go (ℕ-discrete a i) (ℕ-discrete a j)
-    where
-      go : Dec (a ≡ i) → Dec (a ≡ j) → (p : ℕ) × (p < n) × (f p ≡ g a)
-      go (yes q) d = rw q (j, m, sym (h .near))
-      go (no p) (yes q) = rw q (i, l, sym (h .far))
-      go (no p) (no q) = (a, k, sym (h .other a p q))
-
-  swap-into : (x : ℕ) → List·Memᴰ x (gather g n) → List·Memᴰ x (gather f n)
-  swap-into x k =
-      let r = in-gather g n x k in
-      let c = come (r .0) (r .1) in
-      subst (λ (y : ℕ). List·Memᴰ y (gather f n)) (c .2 ∙ r .2) (gather-in f n (c .0) (c .1))
-
-pub swap-same : {f g : ℕ → ℕ} {i j n : ℕ} → Swap f g i j → i < n → j < n → (x : ℕ) → List·Memᴰ x (gather f n) ↔ List·Memᴰ x (gather g n)
-swap-same h l m x = (swap-into (swap-back h) l m x, swap-into h l m x)
-
--- Two stores exchange two places.
-pub swap-stored : (w : List ℕ) (i j a b : ℕ) → Large w → i < mostRecords → j < mostRecords → a ≡ listOf w i → b ≡ listOf w j → Swapped i j w (set (set w (LIST .at + i) b) (LIST .at + j) a)
-swap-stored w i j a b k l m p q =
-    let v = set w (LIST .at + i) b in
-    let f : Within (allOf LIST) w v = within-set (allOf LIST) w (LIST .at + i) b (omega arith) (omega arith) in
-    let k′ : Large v = rw (f .size) k in
-    let e : listOf v ≡ put i b (listOf w) = seen-in LIST w i b l (omega arith) in
-    let e′ : listOf (set v (LIST .at + j) a) ≡ put j a (listOf v) = seen-in LIST v j a m (omega arith) in
-    record {
-      kept = within-trans f (within-set (allOf LIST) v (LIST .at + j) a (omega arith) (omega arith));
-      swap = rw (e′, e, p, q) (puts (listOf w));
-    }
-  where
-    puts : (f : ℕ → ℕ) → Swap f (put j (f i) (put i (f j) f)) i j
-    puts f = record {
-      near = go (ℕ-discrete i j);
-      far = put-hit j (f i) (put i (f j) f);
-      other = λ x d d′. put-miss j (f i) (put i (f j) f) x d′ ∙ put-miss i (f j) f x d;
-    }
-      where
-        go : Dec (i ≡ j) → put j (f i) (put i (f j) f) i ≡ f j
-        go (yes e) = rw e (put-hit j (f j) (put j (f j) f))
-        go (no e) = put-miss j (f i) (put i (f j) f) i e ∙ put-hit i (f j) f
-
-pub swap-stores : (w v v′ : List ℕ) (i j a b : ℕ) → Large w → i < mostRecords → j < mostRecords → a ≡ listOf w i → b ≡ listOf w j → v ≡ set w (LIST .at + i) b → v′ ≡ set v (LIST .at + j) a → Swapped i j w v′
-swap-stores w v v′ i j a b k l m p q e e′ = rw (e′, e) (swap-stored w i j a b k l m p q)
+use Rattle.reason_test.specs.Lists.{Listed, Moved, Named, Entailed, NoneSpare, Sufficient}
 
 -- What is kept where only the list and what lies behind it is written.
 pub posed-kept : {w w′ : List ℕ} {q : Question} {e : ℕ} → Within (fromTo (LIST .at) e) w w′ → Posed w q → Posed w′ q
@@ -181,77 +129,51 @@ module _ {w w₁ : List ℕ} {q : Question} {n : ℕ} (h : Named w q n) (M : Mov
       }
 
 -- The closure of the list.
-module _ {w w′ : List ℕ} {N len n s t : ℕ} {answer : Bool} (h : Entailing N len n s t w w′ answer) where
-  pub list-same : listOf w′ ≡ listOf w
-  list-same = seen-within LIST (h .kept) (inl (omega arith))
+pub named-listing : {w : List ℕ} {q : Question} {n : ℕ} → Named w q n → Listing (q .size) (q .len) n w
+named-listing {w} {q} {n} g = record { loaded = g .listed .loaded; short = omega (arith, g .few); named = λ j l. rw (place-list w j (omega (arith, g .few))) (g .listed .named j l) }
+
+module _ {w w′ : List ℕ} {len n s t : ℕ} {answer : Bool} (few : n ≤ mostWaiting) (h : Entailing len n s t w w′ answer) where
+  pub list-same : listIn n w′ ≡ listIn n w
+  list-same = gather-same (listOf w′) (listOf w) n (λ j l. sym (place-list w′ j (omega arith)) ∙ ap (λ (f : ℕ → ℕ). f j) (seen-within FRONT (h .kept) (inl (omega arith))) ∙ place-list w j (omega arith))
 
   pub entailing-kept : Within scratch w w′
   entailing-kept = within-wider scratch (omega arith) (omega arith) (h .kept)
 
+  pub entailing-only : (answer ≡ true) ↔ Follows (Only (recordsIn len w) (listIn n w)) s t
+  entailing-only = ((λ e. more-of there (h .exact .0 e)), λ f. h .exact .1 (more-of back f))
+    where
+      there : (k : ℕ) → Picked (placeOf w) n Every k → List·Memᴰ k (listIn n w)
+      there k i = rw (← i .3, place-list w (i .0) (omega (arith, i .1))) (gather-in (listOf w) n (i .0) (i .1))
+
+      back : (k : ℕ) → List·Memᴰ k (listIn n w) → Picked (placeOf w) n Every k
+      back k i = let x = in-gather (listOf w) n k i in (x .0, x .1, tt, place-list w (x .0) (omega (arith, x .1)) ∙ x .2)
+
 -- The list entails, and then none is spare.
-module _ {w w′ : List ℕ} (q : Question) {n : ℕ} {answer : Bool} (h : Entailing (q .size) (q .len) n (q .s .0) (q .t .0) w w′ answer) where
+module _ {w w′ : List ℕ} (q : Question) {n : ℕ} {answer : Bool} (few : n ≤ mostWaiting) (h : Entailing (q .len) n (q .s .0) (q .t .0) w w′ answer) where
   pub named-after : Named w q n → Named w′ q n
   named-after g = record {
-    posed = posed-kept (entailing-kept h) (g .posed);
-    listed = listed-kept (entailing-kept h) (λ x m. rw (list-same h) at m) (g .listed);
+    posed = posed-kept (entailing-kept few h) (g .posed);
+    listed = listed-kept (entailing-kept few h) (λ x m. rw (list-same few h) at m) (g .listed);
     few = g .few;
     ordered = g .ordered;
     rising = g .rising;
     many = g .many;
-    same = rw (list-same h) (g .same);
+    same = rw (list-same few h) (g .same);
   }
 
   pub entailed-after : answer ≡ true → Entailed w′ q n
-  entailed-after e = rw (list-same h, kept-records (entailing-kept h) (q .len)) (h .exact .0 e)
+  entailed-after e = rw (list-same few h, kept-records (entailing-kept few h) (q .len)) (entailing-only few h .0 e)
 
   pub not-serving : answer ≡ false → Deciding (Sufficient w q n) w w′ false
   not-serving e = record {
-    kept = entailing-kept h;
-    exact = is-not (λ s. let t : answer ≡ true = h .exact .1 (s .entails) in let z : _≡_ {A = ℕ} 0 1 = cc in omega arith);
+    kept = entailing-kept few h;
+    exact = is-not (λ s. let t : answer ≡ true = entailing-only few h .1 (s .entails) in let z : _≡_ {A = ℕ} 0 1 = cc in omega arith);
   }
 
   pub serving : {w″ : List ℕ} {last : Bool} → answer ≡ true → Deciding (NoneSpare w′ q n) w′ w″ last → Deciding (Sufficient w q n) w w″ last
   serving {w″} {last} e d =
-      let x : (last ≡ true) ↔ NoneSpare w q n = rw (list-same h, kept-records (entailing-kept h) (q .len)) at (d .exact) in
+      let x : (last ≡ true) ↔ NoneSpare w q n = rw (list-same few h, kept-records (entailing-kept few h) (q .len)) at (d .exact) in
       record {
-        kept = within-trans (entailing-kept h) (d .kept);
-        exact = (λ t. record { entails = h .exact .0 e; unspared = x .0 t }, λ s. x .1 (s .unspared));
+        kept = within-trans (entailing-kept few h) (d .kept);
+        exact = (λ t. record { entails = entailing-only few h .0 e; unspared = x .0 t }, λ s. x .1 (s .unspared));
       }
-
--- Another order is the same list to every test.
-pub arranged-none : (n : ℕ) (w : List ℕ) → Arranged n w w
-arranged-none n w = record { kept = within-refl w; same = λ x. (λ m. m, λ m. m) }
-
-pub arranged-trans : {n : ℕ} {w w′ w″ : List ℕ} → Arranged n w w′ → Arranged n w′ w″ → Arranged n w w″
-arranged-trans h k = record {
-  kept = within-trans (h .kept) (k .kept);
-  same = λ x. (λ m. k .same x .0 (h .same x .0 m), λ m. h .same x .1 (k .same x .1 m));
-}
-
-pub arranged-swap : {n i j : ℕ} {w w′ : List ℕ} → i < n → j < n → Swapped i j w w′ → Arranged n w w′
-arranged-swap l m s = record { kept = s .kept; same = swap-same (s .swap) l m }
-
-pub arranged-named : {n : ℕ} {w w′ : List ℕ} {q : Question} → Arranged n w w′ → Named w q n → Named w′ q n
-arranged-named h g = record {
-  posed = posed-kept (h .kept) (g .posed);
-  listed = listed-kept (h .kept) (λ x. h .same x .1) (g .listed);
-  few = g .few;
-  ordered = g .ordered;
-  rising = g .rising;
-  many = g .many;
-  same = λ x. (λ m. h .same x .0 (g .same x .0 m), λ m. g .same x .1 (h .same x .1 m));
-}
-
-serving-same : {rs : List Rec} {s t : ℕ} {L M : List ℕ} → ((x : ℕ) → List·Memᴰ x L ↔ List·Memᴰ x M) → Serving rs s t L → Serving rs s t M
-serving-same e h = record {
-  entails = more-of (λ x. e x .0) (h .entails);
-  unspared = record { unspared = λ m i f. h .unspared .unspared m (e m .1 i) (more-of (λ x j. (e x .1 (j .0), j .1)) f) };
-}
-
-pub arranged-serving : {w w′ w″ : List ℕ} (q : Question) {n : ℕ} {answer : Bool} → Arranged n w w′ → Deciding (Sufficient w′ q n) w′ w″ answer → Deciding (Sufficient w q n) w w″ answer
-arranged-serving {w} {w′} {w″} q {n} {answer} h d =
-    let x : (answer ≡ true) ↔ Serving (recordsIn (q .len) w) (q .s .0) (q .t .0) (listIn n w′) = rw (kept-records (h .kept) (q .len)) at (d .exact) in
-    record {
-      kept = within-trans (within-wider scratch (omega arith) (omega arith) (h .kept)) (d .kept);
-      exact = (λ e. serving-same (λ y. (h .same y .1, h .same y .0)) (x .0 e), λ s. x .1 (serving-same (h .same) s));
-    }

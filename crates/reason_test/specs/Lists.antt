@@ -1,38 +1,24 @@
--- The list of a reason in the table: its order, the records that it names, and whether none of its numbers can be spared.
+-- The list of a reason in the table: the records that it names, and whether none of its numbers can be spared.
 -- Assumes nothing.
-use Prim.Native.Nat.{ℕ, _≤_}
+use Prim.Native.Nat.{ℕ, _≤_, _<_}
 use mathlib.Core.Path.{_≡_}
-use mathlib.Core.Logic.{_≢_, _↔_}
+use mathlib.Core.Logic.{_↔_}
 use mathlib.Core.List.{List, List·Memᴰ}
 use lib.ListN.{length}
 use Rattle.meaning.specs.Following.{Rec, Follows, Only, Without}
 use Rattle.meaning.specs.Reasons.{Above}
-use Rattle.table.specs.Map.{listOf, listIn, recordsIn, Within}
+use Rattle.meaning.specs.Limits.{mostRecords}
+use Rattle.table.specs.Map.{listOf, listIn, recordsIn, Loaded, Within}
 use Rattle.table.specs.Places.{LIST, allOf, mostWaiting}
-use Rattle.list_close.specs.Closing.{Listed}
 use Rattle.reason_list.specs.Listing.{waitingIn}
 use Rattle.moment.specs.declared.Question.{Question}
 use Rattle.moment.specs.Posed.{Posed}
 
--- Places i and j of a list were exchanged.
-pub record Swap (f g : ℕ → ℕ) (i j : ℕ) : Type 0 where
-  pub near : g i ≡ f j
-  pub far : g j ≡ f i
-  pub other : (x : ℕ) → x ≢ i → x ≢ j → g x ≡ f x
-
-pub record Swapped (i j : ℕ) (w w′ : List ℕ) : Type 0 where
-  pub kept : Within (allOf LIST) w w′
-  pub swap : Swap (listOf w) (listOf w′) i j
-
--- The first n numbers of the list may stand in another order, and nothing else changed.
-pub record Arranged (n : ℕ) (w w′ : List ℕ) : Type 0 where
-  pub kept : Within (allOf LIST) w w′
-  pub same : (x : ℕ) → List·Memᴰ x (listIn n w) ↔ List·Memᴰ x (listIn n w′)
-
--- The list is arranged so, and at most p of its places are settled.
-pub record Brought (n p : ℕ) (w w′ : List ℕ) : Type 0 where
-  pub within : p ≤ n
-  pub arranged : Arranged n w w′
+-- The first n numbers of the list name records of the table.
+pub record Listed (N len n : ℕ) (w : List ℕ) : Type 0 where
+  pub loaded : Loaded N len w
+  pub short : n ≤ mostRecords
+  pub named : (i : ℕ) → i < n → (1 ≤ listOf w i) × (listOf w i ≤ len)
 
 -- The first n numbers of the list came to where those wait that are tried.
 pub record Moved (n : ℕ) (w w′ : List ℕ) : Type 0 where

@@ -1,13 +1,13 @@
--- Taking out the spare records: each is tried once, and stays only if the others do not make s and t equal. Document 01, "Reasons":
--- none can be spared.
+-- Taking out the spare records: what stays makes s and t equal, and none of it can be spared. Document 01, "Reasons".
 -- Assumes nothing.
-use Prim.Native.Nat.{ℕ, _+_, _≤_, _<_}
+use Prim.Native.Nat.{ℕ, suc, _+_, _≤_, _<_}
 use mathlib.Core.Path.{_≡_}
 use mathlib.Core.Logic.{_≢_, _⊎_}
 use mathlib.Core.List.{List, List·Memᴰ}
-use Rattle.meaning.specs.Following.{Follows, Those, Only, Without}
-use Rattle.table.specs.Map.{listOf, listIn, recordsIn, Loaded, Within}
-use Rattle.table.specs.Places.{LIST, allOf, fromTo, mostWaiting, scratch, waitingAt}
+use lib.ListN.{set}
+use Rattle.meaning.specs.Following.{Follows, Only, Without}
+use Rattle.table.specs.Places.{LIST, allOf, frontPart, mostWaiting, scratch}
+use Rattle.table.specs.Map.{listOf, listIn, recordsIn, Loaded, Within, placeOf}
 use Rattle.reason_list.specs.Listing.{waitingIn}
 
 -- From w to w′ the `count` numbers of the list from `from` on were written from `to` on as well, and nothing else.
@@ -16,31 +16,19 @@ pub record Copied (w w′ : List ℕ) (from to count : ℕ) : Type 0 where
   pub same : (x : ℕ) → (x < to) ⊎ (to + count ≤ x) → listOf w′ x ≡ listOf w x
   pub copy : (j : ℕ) → j < count → listOf w′ (to + j) ≡ listOf w (from + j)
 
--- The records that are left: the first `kept` of the list were tried and stay, and those that wait from i up to n were not yet.
-abbrev pub Left : List ℕ → ℕ → ℕ → ℕ → ℕ → Type 0
-Left w kept i n k = List·Memᴰ k (listIn kept w) ⊎ ((j : ℕ) × (i ≤ j) × (j < n) × (listOf w (waitingAt + j) ≡ k))
+-- From w to w′ the number at place i came to place `kept`, unless it was left out: then there are r.
+pub record Moved (w w′ : List ℕ) (i kept r : ℕ) : Type 0 where
+  pub none : placeOf w i ≡ 0 → (r ≡ kept) × (w′ ≡ w)
+  pub some : placeOf w i ≢ 0 → (r ≡ suc kept) × (w′ ≡ set w (LIST .at + kept) (placeOf w i))
 
--- What is left makes s and t equal, and none of those kept can be spared.
-pub record Trying (N len s t : ℕ) (w : List ℕ) (kept i n : ℕ) : Type 0 where
-  pub loaded : Loaded N len w
-  pub s-tag : s < N
-  pub t-tag : t < N
-  pub few : kept ≤ i
-  pub on : i ≤ n
-  pub short : n ≤ mostWaiting
-  pub named : (k : ℕ) → Left w kept i n k → (1 ≤ k) × (k ≤ len)
-  pub entails : Follows (Those (recordsIn len w) (Left w kept i n)) s t
-  pub unspared : (m : ℕ) → List·Memᴰ m (listIn kept w) → Follows (Those (recordsIn len w) (λ k. Left w kept i n k × (k ≢ m))) s t → ⊥
+-- From w to w′ those of the first n places that were not left out came to the front: `kept` of them.
+pub record Together (w w′ : List ℕ) (n kept : ℕ) : Type 0 where
+  pub kept-in : Within frontPart w w′
+  pub few : kept ≤ n
+  pub to : (j : ℕ) → j < n → placeOf w j ≢ 0 → List·Memᴰ (placeOf w j) (listIn kept w′)
+  pub from : (k : ℕ) → List·Memᴰ k (listIn kept w′) → (j : ℕ) × (j < n) × (placeOf w j ≡ k) × (k ≢ 0)
 
--- From w to w′ the records from i up to j were tried, and no place from e on was written. No record came to those that are left, and of
--- those that will be left once more records have been tried none was lost.
-pub record Tried (e N len s t : ℕ) (w w′ : List ℕ) (kept i j n kept′ : ℕ) : Type 0 where
-  pub kept-in : Within (fromTo (LIST .at) e) w w′
-  pub fewer : (k : ℕ) → Left w′ kept′ j n k → Left w kept i n k
-  pub stays : (m k : ℕ) → j ≤ m → Left w kept m n k → Left w′ kept′ m n k
-  pub trying : Trying N len s t w′ kept′ j n
-
--- From w to w′ all n that waited were tried: the first `kept` of the list are some of them, they make s and t equal, and none of
+-- From w to w′ the spare ones of all n that waited were taken out: the first `kept` of the list are some of them, they make s and t equal, and none of
 -- them can be spared.
 pub record Pruned (N len s t : ℕ) (w w′ : List ℕ) (n kept : ℕ) : Type 0 where
   pub kept-in : Within scratch w w′

@@ -14,7 +14,7 @@ use lib.Seq.{getD-set-same, getD-set-other, getD-append-seam}
 use Rattle.meaning.specs.Joins.{put}
 use Rattle.meaning.proofs.Log.{put-hit, put-miss}
 use Rattle.table.specs.Map.{seen, chainIn, gather, Within}
-use Rattle.table.specs.Places.{MORE, OTHER, Part, Region, SHARES, USES, WAITS, columnSize, moreAt, useAt}
+use Rattle.table.specs.Places.{BEFORE, ENDS, MORE, OTHER, PRIOR, Part, Region, SHARES, TAILS, USES, WAITS, beforeAt, columnSize, endAt, moreAt, useAt}
 
 module _ (r : Region) where
   -- Within its size a region is the table; past it, the rule.
@@ -95,6 +95,10 @@ mores-least false = omega arith
 pub mores-most : (b : Bool) → moreAt b ≤ OTHER .at
 mores-most true = omega arith
 mores-most false = omega arith
+
+pub ends-between : (b : Bool) → (ENDS .at ≤ endAt b) × (endAt b ≤ TAILS .at) × (BEFORE .at ≤ beforeAt b) × (beforeAt b ≤ PRIOR .at)
+ends-between true = (omega arith, omega arith, omega arith, omega arith)
+ends-between false = (omega arith, omega arith, omega arith, omega arith)
 
 -- A number up to 4,001 is that of a chain; a larger one is that of a place that waits.
 pub chain-low : (v : ℕ) → v ≤ columnSize → chainIn v ≡ v

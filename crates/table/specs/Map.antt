@@ -12,7 +12,7 @@ use Rattle.meaning.specs.Following.{Rec, eq, app}
 use Rattle.meaning.specs.Joins.{Join, by, cong}
 use Rattle.meaning.proofs.Reference.{Small}
 use Rattle.meaning.specs.Limits.{mostRecords, mostTags}
-use Rattle.table.specs.Places.{AGE, BUCKETS, CHAIN, EQUATION, FIRST, HEADS, LABEL, LEFT, LIST, Large, MARKS, NEXT, PARENT, Part, RESULT, RIGHT, Region, SAVED, SECOND, WAITS, WHEN, columnSize, moreAt, plain, useAt}
+use Rattle.table.specs.Places.{AGE, BUCKETS, CHAIN, EQUATION, FIRST, FRONT, HEADS, LABEL, LEFT, LIST, Large, MARKS, MEMBER, NEXT, PARENT, Part, QUEUE, RESULT, RIGHT, Region, SAVED, SECOND, TRAIL, WAITS, WHEN, beforeAt, columnSize, endAt, frontSize, moreAt, plain, useAt}
 
 -- A region as a function from its own numbers.
 unfoldable pub seen : Region → List ℕ → ℕ → ℕ
@@ -67,6 +67,28 @@ markOf w = seen MARKS w
 -- By tag: a label that was saved.
 abbrev pub savedOf : List ℕ → ℕ → ℕ
 savedOf w = seen SAVED w
+
+-- While spare records are taken out. By place: the record number, or 0 where it was left out. By tag: the next tag of its class. By join: the label that went.
+abbrev pub placeOf : List ℕ → ℕ → ℕ
+placeOf w = seen FRONT w
+
+abbrev pub memberOf : List ℕ → ℕ → ℕ
+memberOf w = seen MEMBER w
+
+abbrev pub trailOf : List ℕ → ℕ → ℕ
+trailOf w = seen TRAIL w
+
+-- By tag: one more than the last place whose record has it for its first argument (for its second, where `second` says so), or 0; by place: the same of
+-- the places before it, for the same tag.
+abbrev pub endOf : Bool → List ℕ → ℕ → ℕ
+endOf second w = seen (plain (endAt second) mostTags) w
+
+abbrev pub beforeOf : Bool → List ℕ → ℕ → ℕ
+beforeOf second w = seen (plain (beforeAt second) frontSize) w
+
+-- By place: 0 where it is not in, 1 where it is; 2 and more where it is and waits, and then two more than the link to the next that does.
+abbrev pub queueOf : List ℕ → ℕ → ℕ
+queueOf w = seen QUEUE w
 
 -- While all records are closed, from the list on. By tag: one more than the last place whose record has it for its first argument (for its second, where `second` says so), or 0; by place:
 -- the same of the places before it, for the same tag.

@@ -92,6 +92,49 @@ SAVED = record { at = 31096; size = mostTags; past = λ x. x }
 abbrev pub spare : ℕ
 spare = 32096
 
+-- While spare records are taken out other regions stand behind the front of the list, with the labels where they are. By place: the front of the
+-- list, with 0 where a record was left out.
+abbrev pub frontSize : ℕ
+frontSize = waitingAt
+
+abbrev pub FRONT : Region
+FRONT = frontOf LIST frontSize
+
+-- By tag: the next tag of its class; and of a label, how heavy its class is. By join: the label that went.
+abbrev pub MEMBER : Region
+MEMBER = record { at = 19003; size = mostTags; past = λ x. x }
+
+abbrev pub WEIGHT : Region
+WEIGHT = record { at = 20003; size = mostTags; past = λ x. 0 }
+
+abbrev pub TRAIL : Region
+TRAIL = record { at = 22003; size = mostTags; past = λ x. 0 }
+
+-- By tag: the last place whose record has it for its first tag, and the same of the second. By place: the last place before it with the same first
+-- tag, and the same of the second.
+abbrev pub ENDS : Region
+ENDS = record { at = 23003; size = mostTags; past = λ x. 0 }
+
+abbrev pub TAILS : Region
+TAILS = record { at = 24003; size = mostTags; past = λ x. 0 }
+
+abbrev pub BEFORE : Region
+BEFORE = record { at = 25003; size = frontSize; past = λ x. 0 }
+
+abbrev pub PRIOR : Region
+PRIOR = record { at = 27003; size = frontSize; past = λ x. 0 }
+
+-- By place: whether it is in, and whether it waits.
+abbrev pub QUEUE : Region
+QUEUE = record { at = 29003; size = frontSize; past = λ x. 0 }
+
+-- Of the first argument, or of the second where `second` says so.
+abbrev pub endAt : Bool → ℕ
+endAt second = cond second (TAILS .at) (ENDS .at)
+
+abbrev pub beforeAt : Bool → ℕ
+beforeAt second = cond second (PRIOR .at) (BEFORE .at)
+
 -- While all records are closed other regions stand from the list on, with the labels where they are. By place: the last place before it with
 -- the same first tag, the same of the second, and the link of its chain, or for a place that waits `WAITS` more than the next that does.
 abbrev pub MORE : Region
@@ -187,3 +230,30 @@ filePart = fromTo (CHAIN .at) (USES .at)
 
 abbrev pub indexPart : Part
 indexPart = fromTo (CHAIN .at) namedNumbers
+
+-- What taking out spare records writes: rings and weights; these and the labels; these and the trail; the lists of uses; these and what is in; all
+-- of it; and all of it with the front of the list.
+abbrev pub ringPart : Part
+ringPart = fromTo (MEMBER .at) (LABEL .at)
+
+abbrev pub classPart : Part
+classPart = fromTo (MEMBER .at) (TRAIL .at)
+
+abbrev pub linkPart : Part
+linkPart = fromTo (MEMBER .at) (ENDS .at)
+
+abbrev pub usesPart : Part
+usesPart = fromTo (ENDS .at) (QUEUE .at)
+
+abbrev pub wipePart : Part
+wipePart = fromTo (ENDS .at) (QUEUE .at + QUEUE .size)
+
+abbrev pub addPart : Part
+addPart = fromTo (MEMBER .at) (QUEUE .at + QUEUE .size)
+
+abbrev pub halvePart : Part
+halvePart = fromTo (LIST .at) (QUEUE .at + QUEUE .size)
+
+-- And with all before it behind the columns.
+abbrev pub beforeHalved : Part
+beforeHalved = fromTo (PARENT .at) (QUEUE .at + QUEUE .size)

@@ -1,39 +1,19 @@
-// Labels, saved labels and chains: the loops that write them in the lent work table, and the key by which an application is found. Document 01, "Tags, records, following".
+// Labels: the loops that write them in the lent work table, and the key by which an application is found. Document 01, "Tags, records, following".
 // Rests on meaning (labels) and table (where things stand).
 ghost use mathlib.Core.Path.{_≡_};
 ghost use mathlib.Core.List.{map};
-ghost use Prim.Native.Nat.{_+_, _*_, _≤_, _<_};
+ghost use Prim.Native.Nat.{_≤_, _<_};
 ghost use lib.Dec.{eqb};
-ghost use lib.ListN.{length, set};
-ghost use mathlib.Core.Bool.{true, false};
+ghost use lib.ListN.{length};
 ghost use Rattle.meaning.specs.Labels.{into};
-ghost use Rattle.meaning.specs.Limits.{mostRecords, mostTags, namedNumbers};
-ghost use Rattle.table.specs.Map.{labelOf, headOf};
-ghost use Rattle.table.specs.Places.{HEADS, Large, NEXT, headCount};
-ghost use Rattle.table_labels.specs.Parts.{Own, Fills, CountsUp, Raised, Lowered, Relabelled, Fresh, Preserved, Restored, Cleared, keyIn, Readable};
+ghost use Rattle.meaning.specs.Limits.{mostTags};
+ghost use Rattle.table.specs.Map.{labelOf};
+ghost use Rattle.table.specs.Places.{Large};
+ghost use Rattle.table_labels.specs.Parts.{Fills, CountsUp, Fresh, keyIn, Readable};
 use meaning::RecordNo;
 use meaning::Tag;
-use table::HEADS;
 use table::LABEL;
-use table::MARKS;
 use table::NEXT;
-use table::SAVED;
-use table::SPARE;
-
-// The number of buckets. A list of at most FEW records gets so few that clearing them costs less than closing it.
-pub const BUCKETS: usize = 4093;
-
-pub const FEW: usize = 60;
-
-pub const FEW_BUCKETS: usize = 61;
-
-// Where the few links and the few heads end.
-const FEW_NEXT: usize = NEXT + FEW;
-
-const FEW_HEADS: usize = HEADS + FEW_BUCKETS;
-
-// How far behind its label a tag's saved label stands.
-const GAP: usize = SAVED - LABEL;
 
 // Every number becomes v.
 pub fn fill(part: &mut [u16], v: u16)
@@ -71,45 +51,11 @@ fn relabel(part: &mut [u16], hi: u16, lo: u16)
     }
 }
 
-// The numbers before the last `gap` are written `gap` places behind as well.
-fn raise(part: &mut [u16], gap: usize)
-    requires { ⌜ (gap ≤ length (now part)) × (length (now part) ≤ 2 * gap) × (gap ≤ namedNumbers) ⌝ }
-    ensures { λ _. ⌜ Raised (now (part .entry)) (now (part .exit)) gap ⌝ }
-{
-    let mut i = 0;
-    while i + gap < part.len() {
-        let v = part[i];
-        part[i + gap] = v;
-        i += 1;
-    }
-}
-
-// The numbers `gap` places behind come to the front.
-fn lower(part: &mut [u16], gap: usize)
-    requires { ⌜ (gap ≤ length (now part)) × (length (now part) ≤ 2 * gap) × (gap ≤ namedNumbers) ⌝ }
-    ensures { λ _. ⌜ Lowered (now (part .entry)) (now (part .exit)) gap ⌝ }
-{
-    let mut i = 0;
-    while i + gap < part.len() {
-        let v = part[i + gap];
-        part[i] = v;
-        i += 1;
-    }
-}
-
 // The label hi becomes lo in a part of the labels.
 pub fn rename(part: &mut [u16], hi: Tag, lo: Tag)
     ensures { λ _. ⌜ now (part .exit) ≡ map (into (lo .0) (hi .0)) (now (part .entry)) ⌝ }
 {
     relabel(part, hi.number(), lo.number());
-}
-
-// The label hi becomes lo for every tag. Only the job's tags, those below `size`, can have another's label.
-pub fn merge(work: &mut [u16], size: usize, lo: Tag, hi: Tag)
-    requires { ⌜ Large (now work) × (size ≤ mostTags) × (hi .0 < size) × Own size (labelOf (now work)) ⌝ }
-    ensures { λ _. ⌜ Relabelled (now (work .entry)) (now (work .exit)) (lo .0) (hi .0) ⌝ }
-{
-    rename(&mut work[LABEL..LABEL + size], hi, lo);
 }
 
 // Each tag is its own label.
@@ -118,49 +64,6 @@ pub fn fresh(work: &mut [u16])
     ensures { λ _. ⌜ Fresh (now (work .entry)) (now (work .exit)) ⌝ }
 {
     count_up(&mut work[LABEL..NEXT]);
-}
-
-// The labels are saved.
-pub fn save(work: &mut [u16])
-    requires { ⌜ Large (now work) ⌝ }
-    ensures { λ _. ⌜ Preserved (now (work .entry)) (now (work .exit)) ⌝ }
-{
-    raise(&mut work[LABEL..SPARE], GAP);
-}
-
-// The labels are those that were saved.
-pub fn restore(work: &mut [u16])
-    requires { ⌜ Large (now work) ⌝ }
-    ensures { λ _. ⌜ Restored (now (work .entry)) (now (work .exit)) ⌝ }
-{
-    lower(&mut work[LABEL..SPARE], GAP);
-}
-
-// No place stands in a chain.
-fn clear_all(work: &mut [u16])
-    requires { ⌜ Large (now work) ⌝ }
-    ensures { λ _. ⌜ Cleared false (now (work .entry)) (now (work .exit)) ⌝ }
-{
-    fill(&mut work[NEXT..MARKS], 0);
-}
-
-fn clear_few(work: &mut [u16])
-    requires { ⌜ Large (now work) ⌝ }
-    ensures { λ _. ⌜ Cleared true (now (work .entry)) (now (work .exit)) ⌝ }
-{
-    fill(&mut work[NEXT..FEW_NEXT], 0);
-    fill(&mut work[HEADS..FEW_HEADS], 0);
-}
-
-pub fn clear(work: &mut [u16], few: bool)
-    requires { ⌜ Large (now work) ⌝ }
-    ensures { λ _. ⌜ Cleared few (now (work .entry)) (now (work .exit)) ⌝ }
-{
-    if few {
-        clear_few(work);
-    } else {
-        clear_all(work);
-    }
 }
 
 // Both argument labels of a record as one number.
@@ -173,16 +76,6 @@ pub fn key(work: &[u16], r: RecordNo) -> usize
     let x = table::label(work, a);
     let y = table::label(work, b);
     x.place() * 65536 + y.place()
-}
-
-// Place i goes to the head of a bucket's chain.
-pub fn insert(work: &mut [u16], b: usize, i: usize)
-    requires { ⌜ Large (now work) × (b < headCount) × (i < mostRecords) × (headOf (now work) b ≤ mostRecords) ⌝ }
-    ensures { λ _. ⌜ now (work .exit) ≡ set (set (now (work .entry)) (NEXT .at + i) (headOf (now (work .entry)) b)) (HEADS .at + b) (i + 1) ⌝ }
-{
-    let old = table::head(work, b);
-    table::put_next(work, i, old);
-    table::put_head(work, b, i + 1);
 }
 
 // Whether two tags have one label.

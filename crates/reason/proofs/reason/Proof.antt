@@ -3,7 +3,7 @@
 use borrow.Author.Needs.{needs}
 use native.Mathlib.Omega.{arith}
 use native.Mathlib.Numerals.{add-one}
-use Rattle.reason.proofs.Whole.{asks-trace, asks-list, asks-prune, asks-rising, reasoned}
+use Rattle.reason.proofs.Whole.{asks-trace, asks-list, followed, asks-rising, reasoned}
 use Rattle.reason.proofs.reason.Statement.{statement}
 use Rattle.reason.proofs.reason.Tie as tie
 
@@ -22,17 +22,14 @@ add-list-marked c = search needs
 list-marked-requires : tie.Need-list-marked-requires
 list-marked-requires c κs = rw add-one (asks-list (c .before .before .before .before .before .before .before .before .before .before .pre) (c .before .before .before .before .before .before .before .unmark-all .ensures) (rw add-one at (c .before .before .before .trace .ensures)))
 
-add-prune : tie.Need-add-prune
-add-prune c = search needs
-
-prune-requires : tie.Need-prune-requires
-prune-requires c κs = rw add-one (asks-prune (c .before .before .before .before .before .before .before .before .before .before .before .before .before .before .pre) (c .before .before .before .before .before .before .before .before .before .before .before .unmark-all .ensures) (rw add-one at (c .before .before .before .before .before .before .before .trace .ensures)) (rw add-one at (c .before .before .before .list-marked .ensures)))
+trim-requires : tie.Need-trim-requires
+trim-requires c κs = (followed (c .before .before .before .before .before .before .before .before .before .before .before .before .before .before .pre) (c .before .before .before .before .before .before .before .before .before .before .before .unmark-all .ensures) (rw add-one at (c .before .before .before .before .before .before .before .trace .ensures)) (rw add-one at (c .before .before .before .list-marked .ensures)))
 
 put-rising-requires : tie.Need-put-rising-requires
-put-rising-requires c κs = asks-rising (c .before .before .before .before .before .before .before .before .before .before .before .before .before .before .before .before .before .before .pre) (c .before .before .before .before .before .before .before .before .before .before .before .before .before .before .before .unmark-all .ensures) (rw add-one at (c .before .before .before .before .before .before .before .before .before .before .before .trace .ensures)) (rw add-one at (c .before .before .before .before .before .before .before .list-marked .ensures)) (c .before .before .before .prune .ensures)
+put-rising-requires c κs = asks-rising (c .before .before .before .before .before .before .before .before .before .before .before .before .before .before .before .before .before .before .pre) (c .before .before .before .before .before .before .before .before .before .before .before .before .before .before .before .unmark-all .ensures) (rw add-one at (c .before .before .before .before .before .before .before .before .before .before .before .trace .ensures)) (rw add-one at (c .before .before .before .before .before .before .before .list-marked .ensures)) (c .before .before .before .trim .ensures)
 
 returns : tie.Need-returns
-returns c = reasoned (c .before .before .before .before .before .before .before .before .before .before .before .before .before .before .before .before .before .before .before .before .before .pre) (c .before .before .before .before .before .before .before .before .before .before .before .before .before .before .before .before .before .before .unmark-all .ensures) (rw add-one at (c .before .before .before .before .before .before .before .before .before .before .before .before .before .before .trace .ensures)) (rw add-one at (c .before .before .before .before .before .before .before .before .before .before .list-marked .ensures)) (c .before .before .before .before .before .before .prune .ensures) (c .before .before .put-rising .ensures)
+returns c = reasoned (c .before .before .before .before .before .before .before .before .before .before .before .before .before .before .before .before .before .before .before .before .before .pre) (c .before .before .before .before .before .before .before .before .before .before .before .before .before .before .before .before .before .before .unmark-all .ensures) (rw add-one at (c .before .before .before .before .before .before .before .before .before .before .before .before .before .before .trace .ensures)) (rw add-one at (c .before .before .before .before .before .before .before .before .before .before .list-marked .ensures)) (c .before .before .before .before .before .before .trim .ensures) (c .before .before .put-rising .ensures)
 
 same-length : tie.Need-same-length
 same-length c = returns c .kept .size
@@ -46,8 +43,7 @@ reason-spec =
     trace-requires
     add-list-marked
     list-marked-requires
-    add-prune
-    prune-requires
+    trim-requires
     put-rising-requires
     same-length
     returns)

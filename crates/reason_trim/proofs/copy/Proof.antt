@@ -6,7 +6,7 @@ use native.Mathlib.Omega.{arith}
 use native.Mathlib.Numerals.{add-one}
 use mathlib.Core.Path.{_≡_}
 use Rattle.reason_trim.specs.Trimming.{Copied}
-use Rattle.reason_trim.proofs.Trying.{copied-start, copied-more}
+use Rattle.reason_trim.proofs.Copying.{copied-start, copied-more}
 use Rattle.reason_trim.proofs.copy.Statement.{statement}
 use Rattle.reason_trim.proofs.copy.Tie as tie
 

@@ -1,49 +1,23 @@
--- `reason_trim::trim` meets its contract: each turn tries one block more.
--- Assumes nothing.
-use Prim.Native.Nat.{_-_}
+-- `trimming::trim` meets its contract. Assumes nothing.
 use native.Mathlib.Omega.{arith}
-use mathlib.Core.Path.{_≡_}
-use Rattle.reason_trim.proofs.Trying.{Pruning, pruning-start, pruning-more, pruning-end}
+use Rattle.reason_trim.proofs.Closing.{followed-sifting, pruned}
 use Rattle.reason_trim.proofs.trim.Statement.{statement}
 use Rattle.reason_trim.proofs.trim.Tie as tie
 
-abbrev Inv-loop : tie.InvT-loop
-Inv-loop work₀ size len n q kept₀ i₀ work kept i = Pruning (q .size) (q .len) (q .s .0) (q .t .0) work₀ work (q .n) kept i
+copy-requires : tie.Need-copy-requires
+copy-requires c κs = (c .before .before .pre .loaded .long, omega (arith, c .before .before .pre .short), omega (arith, c .before .before .pre .short))
 
-abbrev μ-loop : tie.MeasureT-loop
-μ-loop work₀ size len n q kept₀ i₀ work kept i = n - i
+sift-requires : tie.Need-sift-requires
+sift-requires c κs = followed-sifting (c .before .before .before .before .before .before .pre) (c .before .before .before .copy .ensures)
 
-loop-holds : tie.Need-loop-holds Inv-loop μ-loop
-loop-holds c = pruning-start (c .before .pre)
+close-up-requires : tie.Need-close-up-requires
+close-up-requires c κs = (omega (arith, c .before .before .before .before .before .before .before .before .before .before .pre .loaded .long, c .before .before .before .before .before .before .before .copy .ensures .kept .size, c .before .before .before .sift .ensures .kept .size), omega (arith, c .before .before .before .before .before .before .before .before .before .before .pre .short))
 
-block-end-requires : tie.Need-block-end-requires Inv-loop μ-loop
-block-end-requires c κs = (c .loop-test .taken, c .before .loop .inv .trying .short)
+returns : tie.Need-returns
+returns c = pruned (c .before .before .before .before .before .before .before .before .before .before .before .before .before .pre) (c .before .before .before .before .before .before .before .before .before .before .copy .ensures) (c .before .before .before .before .before .before .sift .ensures) (c .before .before .close-up .ensures)
 
-try-block-requires : tie.Need-try-block-requires Inv-loop μ-loop
-try-block-requires c κs = (c .before .before .before .loop .inv .trying, omega (arith, c .before .block-end .ensures), c .before .block-end .ensures .1)
-
-loop-less : tie.Need-loop-less Inv-loop μ-loop
-loop-less c = let m = c .before .before .before .before .block-end .ensures in omega (arith, m .0, m .1)
-
-loop-again : tie.Need-loop-again Inv-loop μ-loop
-loop-again c = pruning-more (c .before .before .before .before .before .before .loop .inv) (c .before .before .try-block .ensures)
-
-same-length : tie.Need-same-length Inv-loop μ-loop
-same-length c = c .before .loop .inv .kept-in .size
-
-returns : tie.Need-returns Inv-loop μ-loop
-returns c = let q : c .before .before .before .args .n ≡ c .before .loop .i = omega (arith, c .before .loop .inv .trying .on) in pruning-end (rw (← q) at (c .before .loop .inv))
+same-length : tie.Need-same-length
+same-length c = returns c .kept-in .size
 
 pub trim-spec : {M : Type 1} → statement M
-trim-spec =
-    tie.close
-    (tie.spec
-    Inv-loop
-    μ-loop
-    loop-holds
-    block-end-requires
-    try-block-requires
-    loop-less
-    loop-again
-    same-length
-    returns)
+trim-spec = tie.close (tie.spec copy-requires sift-requires close-up-requires same-length returns)

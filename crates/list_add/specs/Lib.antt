@@ -1,0 +1,5 @@
+pub mod State
+pub mod Adding
+pub mod Waking
+pub mod Busy
+pub mod Filing

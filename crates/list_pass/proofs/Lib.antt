@@ -1,4 +1,0 @@
-pub mod Uniting
-pub mod Rows
-pub mod Views
-pub mod Steps

@@ -1,3 +1,0 @@
-pub mod Listed
-pub mod Uniting
-pub mod Passing

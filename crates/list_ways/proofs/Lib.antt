@@ -1,0 +1,4 @@
+pub mod Halves
+pub mod Rings
+pub mod Adding
+pub mod Walking
