@@ -93,7 +93,7 @@ impl RecordNo {
 
 // Document 01's limits (specs/Limits.antt has them for what is promised): the longest job, the most tags, records and questions, and the named
 // places of the record table and of the work table.
-pub const LONGEST: usize = 43010;
+pub const LONGEST: usize = 46510;
 
 pub const MOST_TAGS: usize = 1000;
 

@@ -95,9 +95,9 @@ fn front(kept: &[u8], n: usize) {
     }
 }
 
-// Keeps at most 43,011 bytes of the job, one more than the longest job allowed.
+// Keeps at most 46,511 bytes of the job, one more than the longest job allowed.
 fn recheck() {
-    let mut space = [0u8; 43011];
+    let mut space = [0u8; 46511];
     let kept: &mut [u8] = &mut space;
     let got = read_file(1, kept);
     match got {
