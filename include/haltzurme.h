@@ -43,7 +43,7 @@ enum haltzurme_limit {
     HALTZURME_MOST_TAGS = 1000,
     HALTZURME_MOST_RECORDS = 4000,
     HALTZURME_MOST_QUESTIONS = 1000,
-    HALTZURME_LONGEST_JOB = 43010,      /* bytes */
+    HALTZURME_LONGEST_JOB = 46510,      /* bytes */
     HALTZURME_LONGEST_REPORT = 3999007, /* bytes that are enough room for every job */
     HALTZURME_WORK = 32768,             /* numbers of the work table */
     HALTZURME_STACK = 131072            /* bytes of stack that a call may need, with a margin; bench/stack measures it */

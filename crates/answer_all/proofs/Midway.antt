@@ -38,8 +38,8 @@ module _ {job w room : List ℕ} {len next : ℕ} {p : Spot} where
   question-stepped f q l w′ room′ i a = rw i (onward (answers a))
 
 -- A question on two tags that was answered by what the table knows is answered for the job.
-pub answered-replied : {job w room : List ℕ} {N len joins before differs out : ℕ} {q : Question} {w′ room′ : List ℕ} {end : ℕ} → Breaking job w N len joins before differs
-    → Answered w room N len before out q w′ room′ end → Replied job w room before differs out q w′ room′ end
+pub answered-replied : {job w room : List ℕ} {H : Head} {len joins before differs out : ℕ} {q : Question} {w′ room′ : List ℕ} {end : ℕ} → Breaking job w H len joins before differs
+    → Answered w room H len before out q w′ room′ end → Replied job w room before differs out q w′ room′ end
 answered-replied {job} B a = record {
   field = a .field;
   right = λ b e d. a .right (matterIn job) b (record { size = B .size; records = sym (B .records); before = e });
@@ -55,7 +55,7 @@ stepped-to (answers a) = refl
 
 -- What was met: a note, a question, or nothing else.
 module _ {job w room : List ℕ} {H : Head} {len joins : ℕ} {p : Spot} where
-  pub met-note : (f : Field) (n : Note) → Meeting job w room H len joins p f → f ≡ item (noted n) → (p .before + length (standsFor n) < 65536) × Marking w (H .size) len joins (p .differs) n
+  pub met-note : (f : Field) (n : Note) → Meeting job w room H len joins p f → f ≡ item (noted n) → (p .before + length (standsFor n) < 65536) × Marking w H len joins (p .differs) n
   met-note f n (note-met {n = n′} h m) e = let z : n′ ≡ n = cc in rw (← z) (h, m)
   met-note f n (question-met h) e = let z : _≡_ {A = ℕ} 0 1 = cc in absurd (omega arith)
 
@@ -108,10 +108,10 @@ module _ (job w room : List ℕ) (H : Head) (len joins : ℕ) (p : Spot) (w′ r
       let c : p .before + length (recordsOf (k .rest)) ≡ len = rw (k .first) at (m .counted) in
       let h : p .out + (roomOf (headIn job) (m .moment) q + neededRoom (headIn job) (after (posed q) (m .moment)) (k .rest)) ≤ length room = rw (k .first) at (m .fits) in
       let f : p .out + roomOf (headIn job) (m .moment) q ≤ length room = omega arith in
-      let g : p .out + roomOf (record { size = N }) (afterRecords (p .before)) q ≤ length room = omega (arith, room-known (headIn job) (m .moment) N (p .before) q (m .asking .size) (m .passed)) in
+      let g : p .out + roomOf H (afterRecords (p .before)) q ≤ length room = omega (arith, room-known (headIn job) (m .moment) H (p .before) q (m .asking .head) (m .passed)) in
       record {
-        facing = record { past = m .asking .past; passed = omega arith; tags = rw (m .asking .size) at (k .tags); fits = rw room-length g };
-        breaking = breaking-here (pairsOf (m .rest)) (m .asking .stands) (m .asking .size) (m .asking .records) (m .asking .past) (omega arith) (m .guarded);
+        facing = record { past = m .asking .past; units = rw (m .asking .head) at (m .asking .stands .units); passed = omega arith; tags = rw (m .asking .head) at (k .tags); fits = rw room-length g };
+        breaking = breaking-here (pairsOf (m .rest)) (m .asking .stands) (m .asking .head) (m .asking .records) (m .asking .past) (omega arith) (m .guarded);
       }
 
   pub midway-told : fieldAt job (p .at) ≡ end → Told job w room H len joins w′ room′ (p .out)
@@ -128,7 +128,7 @@ module _ (job w room : List ℕ) (H : Head) (len joins : ℕ) (p : Spot) (w′ r
       }
 
   asking-on : {e : ℕ} (w″ : List ℕ) → Within (fromTo (LIST .at) e) w′ w″ → Asking job w″ H len joins
-  asking-on w″ f = record { stands = m .asking .stands; size = m .asking .size; short = m .asking .short; few = m .asking .few; records = kept-records f len ∙ m .asking .records; past = kept-past f (m .asking .past) }
+  asking-on w″ f = record { stands = m .asking .stands; head = m .asking .head; short = m .asking .short; few = m .asking .few; records = kept-records f len ∙ m .asking .records; past = kept-past f (m .asking .past) }
 
   -- A note changes nothing but the moment and the numbers of pairs, and a question's field goes behind the bytes that are there.
   midway-step : (i : Item) (p″ : Spot) (w″ room″ : List ℕ) → fieldAt job (p .at) ≡ item i → Stepped job w′ room′ len (behindAt job (p .at)) p i p″ w″ room″ → Midway job w room H len joins p″ w″ room″
@@ -181,10 +181,10 @@ module _ (job w room : List ℕ) (H : Head) (len joins : ℕ) (p : Spot) (w′ r
   pub midway-meeting : (f : Field) → f ≡ fieldAt job (p .at) → isEnd f ≡ false → Meeting job w′ room′ H len joins p f
   midway-meeting f e n = go (m .rest) refl
     where
-      marking : (n : Note) → fieldAt job (p .at) ≡ item (noted n) → Marking w′ (H .size) len joins (p .differs) n
+      marking : (n : Note) → fieldAt job (p .at) ≡ item (noted n) → Marking w′ H len joins (p .differs) n
       marking n h =
           let k = met-here (noted n) h in
-          record { past = m .asking .past; tags = rw (m .asking .size) at (k .tags); room = guarded-room n (pairsOf (k .rest)) (m .asking .stands) (rw (k .first) at (m .guarded)) }
+          record { past = m .asking .past; units = rw (m .asking .head) at (m .asking .stands .units); tags = rw (m .asking .head) at (k .tags); room = guarded-room n (pairsOf (k .rest)) (m .asking .stands) (rw (k .first) at (m .guarded)) }
 
       faced : (i : Item) → fieldAt job (p .at) ≡ item i → Meeting job w′ room′ H len joins p (item i)
       faced (noted n) h = note-met {n = n} (omega (arith, m .counted, m .asking .past .loaded .most, stands-few n)) (marking n h)

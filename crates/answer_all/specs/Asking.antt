@@ -40,7 +40,7 @@ pub record Asked (job w room : List ℕ) (H : Head) (len joins before differs ou
 
 -- A field that is an item is met: a note whose records can be counted and whose pair can be marked, or a question.
 pub data Meeting (job w room : List ℕ) (H : Head) (len joins : ℕ) (p : Spot) : Field → Type 0 where
-  note-met : {n : Note} → p .before + length (standsFor n) < 65536 → Marking w (H .size) len joins (p .differs) n → Meeting job w room H len joins p (item (noted n))
+  note-met : {n : Note} → p .before + length (standsFor n) < 65536 → Marking w H len joins (p .differs) n → Meeting job w room H len joins p (item (noted n))
   question-met : {q : Question} → Asked job w room H len joins (p .before) (p .differs) (p .out) q → Meeting job w room H len joins p (item (posed q))
 
 -- What a field leads to that is an item.

@@ -7,6 +7,7 @@ use lib.ListN.{length}
 use Rattle.meaning.specs.Following.{Follows, UpTo}
 use Rattle.meaning.specs.Reasons.{Reason}
 use Rattle.table.specs.Map.{recordsIn, Within}
+use Rattle.table.specs.Places.{scratch}
 use Rattle.table.specs.Past.{Past}
 use Rattle.report.specs.Report.{numbers, field, laid}
 
@@ -26,4 +27,4 @@ pub record Breached (w room : List ℕ) (N len before out k s t : ℕ) (w′ roo
   pub reason : Reason N (recordsIn len w) before s t list
   pub front : room′ ≡ laid out (field 134 (numbers (k ∷ list))) room
   pub reached : end ≡ out + length (field 134 (numbers (k ∷ list)))
-  pub kept : Within 17003 32096 w w′
+  pub kept : Within scratch w w′

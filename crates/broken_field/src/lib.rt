@@ -4,6 +4,7 @@ ghost use Prim.Native.Nat.{_+_, _≤_};
 ghost use lib.ListN.{length};
 ghost use Rattle.job_field.specs.Items.{broken, roomOf};
 ghost use Rattle.report.specs.Report.{afterRecords};
+ghost use Rattle.moment.specs.Posed.{headOf};
 ghost use Rattle.pairs.specs.Breaking.{Breaking};
 ghost use Rattle.answer_ask.specs.Facing.{Replied};
 ghost use Rattle.broken_field.specs.Breach.{Broke, Breached};
@@ -50,7 +51,7 @@ pub fn answer_broken(
     differs: usize,
     out: usize,
 ) -> usize
-    requires { ⌜ Breaking (now job) (now work) (c .size) (c .len) (c .joins) before differs × (out + roomOf (record { size = c .size }) (afterRecords before) broken ≤ length (now room)) ⌝ }
+    requires { ⌜ Breaking (now job) (now work) (headOf c) (c .len) (c .joins) before differs × (out + roomOf (headOf c) (afterRecords before) broken ≤ length (now room)) ⌝ }
     ensures { λ end. ⌜ Replied (now (job .entry)) (now (work .entry)) (now (room .entry)) before differs out broken (now (work .exit)) (now (room .exit)) end ⌝ }
 {
     let number = first_broken(work, differs, before);

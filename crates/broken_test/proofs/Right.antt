@@ -92,14 +92,14 @@ module _ (w report : List ℕ) (at : ℕ) (q : Question) (k : ℕ) where
     pub breach-other : kind ≢ 134 → Breached w w report at q k Wrong
     breach-other h = record { kept = within-refl w; right = wrong (λ x. let r = breach-found x in h (fields-one f (r .0) (r .2) .0)) }
 
-    pub breach-right : {w′ : List ℕ} → kind ≡ 134 → Within 17003 32096 w w′ → NumberedReason w report (at + 3) size q k → Breached w w′ report at q k (To (at + 3 + size))
+    pub breach-right : {w′ : List ℕ} → kind ≡ 134 → Within scratch w w′ → NumberedReason w report (at + 3) size q k → Breached w w′ report at q k (To (at + 3 + size))
     breach-right {w′} e g r =
         let l : length (numbers (k ∷ r .list)) ≡ size = length-numbers (k ∷ r .list) ∙ omega (arith, r .all) in
         let b : f .body ≡ numbers (k ∷ r .list) = holds-one report (at + 3) (f .body) (numbers (k ∷ r .list)) (f .long ∙ sym l) (field-body report at kind (f .body) (f .holds)) (r .stand) in
         let h : Holds report at (field 134 (numbers (k ∷ r .list))) = rw (b, e) at (f .holds) in
         record { kept = g; right = to {p = at + 3 + size} (of (r .reason)) h (omega (arith, length-field 134 (numbers (k ∷ r .list)), l)) }
 
-    pub breach-wrong : {w′ : List ℕ} → Within 17003 32096 w w′ → (NumberedReason w report (at + 3) size q k → ⊥) → Breached w w′ report at q k Wrong
+    pub breach-wrong : {w′ : List ℕ} → Within scratch w w′ → (NumberedReason w report (at + 3) size q k → ⊥) → Breached w w′ report at q k Wrong
     breach-wrong {w′} g h = record { kept = g; right = wrong (λ x. let r = breach-found x in go (r .0) (r .1) (r .2) (fields-one f (r .0) (r .2) .1)) }
       where
         go : (L : List ℕ) → Reason (q .size) (recordsIn (q .len) w) (q .before) (q .s .0) (q .t .0) L → Holds report at (field 134 (numbers (k ∷ L))) → f .body ≡ numbers (k ∷ L) → ⊥

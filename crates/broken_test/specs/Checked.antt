@@ -8,6 +8,7 @@ use Rattle.meaning.specs.Reasons.{Reason}
 use Rattle.job_field.specs.Items.{Moment, broken}
 use Rattle.job_field.specs.Reading.{matterIn}
 use Rattle.table.specs.Map.{recordsIn, Within}
+use Rattle.table.specs.Places.{scratch}
 use Rattle.report.specs.Report.{numbers, field, Answers}
 use Rattle.report_read.specs.Read.{Holds}
 use Rattle.moment.specs.declared.Question.{Question}
@@ -30,10 +31,10 @@ abbrev pub IntactField : List ℕ → Type 0
 IntactField f = f ≡ field 135 []
 
 pub record Breached (w w′ report : List ℕ) (at : ℕ) (q : Question) (k : ℕ) (answer : Passed) : Type 0 where
-  pub kept : Within 17003 32096 w w′
+  pub kept : Within scratch w w′
   pub right : RightAt (BreachField w q k) report at answer
 
 -- A 06 was looked at: at the moment with so many records and so many pairs before it a right field stands at the place, or none does.
 pub record Checked (job report w w′ : List ℕ) (before differs at : ℕ) (answer : Passed) : Type 0 where
-  pub kept : Within 17003 32096 w w′
+  pub kept : Within scratch w w′
   pub right : (b : Moment) → b .records ≡ before → b .differs ≡ differs → RightAt (Answers (matterIn job) b broken) report at answer

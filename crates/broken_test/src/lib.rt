@@ -4,7 +4,7 @@ ghost use mathlib.Core.Path.{_≡_};
 ghost use Prim.Native.Nat.{_+_, _≤_, _<_};
 ghost use lib.ListN.{length};
 ghost use Rattle.pairs.specs.Breaking.{Breaking};
-ghost use Rattle.moment.specs.Posed.{Deciding};
+ghost use Rattle.moment.specs.Posed.{headOf, Deciding};
 ghost use Rattle.judge_explain.specs.Right.{Known};
 ghost use Rattle.broken_test.specs.Checked.{NumberedReason, IntactField, Breached, Checked};
 ghost use Rattle.answer_ask.specs.Right.{RightAt};
@@ -15,11 +15,11 @@ use moment::Closed;
 use moment::Question;
 use pairs::first_broken;
 use pairs::pair_at;
-use pairs::since;
 use report_read::Front;
 use report_read::front_at;
 use report_read::is_bare;
 use report_read::number_in;
+use table::since;
 
 fn wide(x: u16) -> usize
     ensures { λ r. ⌜ r ≡ x ⌝ }
@@ -90,10 +90,11 @@ fn intact(report: &[u8], at: usize) -> Passed
 
 // The question why the tags of a pair are equal.
 fn asked(c: Closed, before: usize, s: Tag, t: Tag) -> Question
-    ensures { λ q. ⌜ q ≡ record { size = c .size; len = c .len; joins = c .joins; before = before; s = s; t = t } ⌝ }
+    ensures { λ q. ⌜ q ≡ record { size = c .size; unit = c .unit; len = c .len; joins = c .joins; before = before; s = s; t = t } ⌝ }
 {
     Question {
         size: c.size,
+        unit: c.unit,
         len: c.len,
         joins: c.joins,
         before,
@@ -112,7 +113,7 @@ pub fn checked(
     before: usize,
     differs: usize,
 ) -> Passed
-    requires { ⌜ Breaking (now job) (now work) (c .size) (c .len) (c .joins) before differs × (at ≤ length (now report)) ⌝ }
+    requires { ⌜ Breaking (now job) (now work) (headOf c) (c .len) (c .joins) before differs × (at ≤ length (now report)) ⌝ }
     ensures { λ r. ⌜ Checked (now (job .entry)) (now (report .entry)) (now (work .entry)) (now (work .exit)) before differs at r ⌝ }
 {
     let number = first_broken(work, differs, before);

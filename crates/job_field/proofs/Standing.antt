@@ -9,9 +9,9 @@ use mathlib.Core.List.{List, [], _∷_}
 use borrow.Author.Tests.{ltb-true, leb-true}
 use lib.Dec.{eqb, ltb, leb}
 use lib.ListN.{length}
-use Rattle.meaning.specs.Limits.{mostQuestions, mostRecords}
+use Rattle.meaning.specs.Limits.{mostDiffers, mostQuestions, mostRecords}
 use Rattle.job_field.specs.Items.{Head, unsized, headOf, itemsOf, Moment, start, after, Item, noted, posed, standsFor, Reading, refused, accepted, recordsOf, pairsOf, questionsOf}
-use Rattle.job_field.specs.Reading.{Field, bad, header, item, end, fieldAt, byteAt, lengthAt, firstKind, bodyAt, behindAt, checked, mostDiffers, counted, with, behind, onward, readFrom, reading, headIn, itemsIn, first, first-units, unknown}
+use Rattle.job_field.specs.Reading.{Field, bad, header, item, end, fieldAt, byteAt, lengthAt, firstKind, bodyAt, behindAt, checked, counted, with, behind, onward, readFrom, reading, headIn, itemsIn, first, first-units, unknown}
 use Rattle.job_field.specs.Standing.{Few, Stands, ends, next, Job, Met}
 use Rattle.job_field.proofs.Items.{after-records, after-differs, after-questions}
 use Rattle.job_field.proofs.Reading.{Passed, checked-passed, field-whole, field-passed, header-first, and-true, size-right}

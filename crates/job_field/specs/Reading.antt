@@ -7,7 +7,7 @@ use mathlib.Core.List.{List, [], _∷_}
 use lib.Dec.{eqb, ltb, leb}
 use lib.ListN.{length, getD}
 use Rattle.meaning.specs.Following.{eq, app}
-use Rattle.meaning.specs.Limits.{mostQuestions, mostRecords, mostTags}
+use Rattle.meaning.specs.Limits.{mostDiffers, mostQuestions, mostRecords, mostTags}
 use Rattle.job_field.specs.Items.{Head, line, differ, pairsIn, Item, noted, posed, ask, explain, broken, standsFor, tagsOf, Moment, start, after, Reading, refused, accepted, unsized, headOf, itemsOf, Matter, matterOf}
 
 -- All numbers are two bytes, high byte first.
@@ -112,10 +112,6 @@ ofKind job at k =
 
 unfoldable pub fieldAt : List ℕ → ℕ → Field
 fieldAt job at = orElse (leb (at + 3) (length job)) 3 (ofKind job at (kindAt at (byteAt job at) (lengthAt job at)))
-
--- At most 4,000 records, 500 of kind 05, and 1,000 questions.
-abbrev pub mostDiffers : ℕ
-mostDiffers = 500
 
 -- The records that a note stands for are counted with those before it, and so are its pair that must differ and a question.
 abbrev pub counted : Moment → Field → Bool

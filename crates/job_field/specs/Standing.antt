@@ -4,9 +4,9 @@ use Prim.Native.Nat.{ℕ, _+_, _≤_, _<_}
 use mathlib.Core.Path.{_≡_}
 use mathlib.Core.List.{List, [], _∷_}
 use lib.ListN.{length}
-use Rattle.meaning.specs.Limits.{mostQuestions, mostRecords, mostTags}
+use Rattle.meaning.specs.Limits.{mostDiffers, mostQuestions, mostRecords, mostTags}
 use Rattle.job_field.specs.Items.{Head, Item, tagsOf, Moment, start, accepted, recordsOf, pairsOf, questionsOf, neededRoom}
-use Rattle.job_field.specs.Reading.{fieldAt, header, item, end, behindAt, mostDiffers, reading}
+use Rattle.job_field.specs.Reading.{fieldAt, header, item, end, behindAt, reading}
 
 -- Tags are below N.
 abbrev pub Below : ℕ → List ℕ → Type 0

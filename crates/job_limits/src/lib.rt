@@ -21,10 +21,10 @@ use job_field::stands_for;
 use job_field::wide;
 use meaning::Tag;
 
-// At most so many records, so many questions, and so many tags.
+// At most so many records, pairs that must differ, questions and tags.
 const MOST_RECORDS: usize = meaning::MOST_RECORDS;
 
-const MOST_DIFFERS: usize = 500;
+const MOST_DIFFERS: usize = meaning::MOST_DIFFERS;
 
 const MOST_QUESTIONS: u16 = meaning::MOST_QUESTIONS as u16;
 

@@ -39,7 +39,7 @@ tally-question H b room q (accepted M is) h =
     rw (h, ← after-questions b (posed q) is, e)
 
 -- No question needs more room than 4,001 bytes.
-room-most : (H : Head) (b : Moment) (q : Question) → H .size ≤ mostTags → roomOf H b q ≤ 4001
+room-most : (H : Head) (b : Moment) (q : Question) → H .size ≤ mostTags → roomOf H b q ≤ 4 * mostTags + 1
 room-most H b (ask s t) h = omega arith
 room-most H b (explain s t) h = omega arith
 room-most H b broken h = omega arith
@@ -87,7 +87,7 @@ module _ (job : List ℕ) (s : Seen) (h : Going job s) where
       let w : behindAt job (s .at) ≤ length job = there (item (posed q)) tt e in
       let m : Few (momentOf c) = subst Few (sym j) (after-few (momentOf (s .counts)) (posed q) (h .few) (p .count)) in
       let x : ℕ = roomOf (headSeen s) (momentOf (s .counts)) q in
-      let l : x ≤ 4001 = room-most (headSeen s) (momentOf (s .counts)) q (h .size) in
+      let l : x ≤ 4 * mostTags + 1 = room-most (headSeen s) (momentOf (s .counts)) q (h .size) in
       let y : c .questions ≡ s .counts .questions + 1 = ap (λ (x : Moment). x .questions) j in
       rw (i, z) (on {t = record { at = behindAt job (s .at); top = s .top; counts = c; room = s .room + x }} (omega arith) (record { within = w; size = h .size; few = m; room = omega (arith, h .room, l) })
       (λ fuel. step job s (item (posed q)) e fuel ∙ tally-question (headSeen s) (momentOf (s .counts)) (s .room) q (readFrom fuel job (headSeen s) (after (posed q) (momentOf (s .counts))) (behindAt job (s .at))) (read-sized fuel job (headSeen s) (after (posed q) (momentOf (s .counts))) (behindAt job (s .at)) (omega arith))

@@ -24,7 +24,7 @@ question c before s t = record { size = c .size; unit = c .unit; len = c .len; j
 
 -- What the closure left, as the pairs are marked by it.
 abbrev pub leftOf : Closed → Left
-leftOf c = record { size = c .size; len = c .len; joins = c .joins }
+leftOf c = record { size = c .size; unit = c .unit; len = c .len; joins = c .joins }
 
 -- The end of the report: these totals and nothing behind them; or a byte behind them; or not these totals.
 pub data Ended (report : List ℕ) (at classes idle : ℕ) : Judgement → Type 0 where

@@ -15,9 +15,9 @@ use Rattle.answer_ask.specs.declared.Passed.{Passed}
 use Rattle.answer_ask.specs.Right.{RightAt}
 
 -- The table holds what the question is about and keeps the pairs before it, and the place lies in the report.
-pub record Testing (job report w : List ℕ) (N len joins before differs place : ℕ) (q : Question) : Type 0 where
-  pub breaking : Breaking job w N len joins before differs
-  pub tags : Below N (tagsOfQuestion q)
+pub record Testing (job report w : List ℕ) (H : Head) (len joins before differs place : ℕ) (q : Question) : Type 0 where
+  pub breaking : Breaking job w H len joins before differs
+  pub tags : Below (H .size) (tagsOfQuestion q)
   pub within : place ≤ length report
 
 -- At the moment with so many records and so many pairs before it the right field stands there or none does, and only where reasons are looked for has

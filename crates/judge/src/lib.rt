@@ -107,6 +107,7 @@ fn left(closed: Closed) -> Left
 {
     Left {
         size: closed.size,
+        unit: closed.unit,
         len: closed.len,
         joins: closed.joins,
     }
@@ -123,7 +124,7 @@ fn tested(
     differs: usize,
     q: Query,
 ) -> Passed
-    requires { ⌜ Testing (now job) (now report) (now work) (closed .size) (closed .len) (closed .joins) before differs place (questionSaid q) ⌝ }
+    requires { ⌜ Testing (now job) (now report) (now work) (headOf closed) (closed .len) (closed .joins) before differs place (questionSaid q) ⌝ }
     ensures { λ r. ⌜ Tested (now (job .entry)) (now (report .entry)) (now (work .entry)) (now (work .exit)) before differs place (questionSaid q) r ⌝ }
 {
     match q {
@@ -135,7 +136,7 @@ fn tested(
 
 // One item of the job, with the report beside it.
 fn advance(job: &[u8], report: &[u8], work: &mut [u16], closed: Closed, s: Stand) -> Turn
-    requires { ⌜ Judgeable (now job) (now work) (closed .size) (closed .len) (closed .joins) (closed .idle) × Going (now job) (now report) (now work) s ⌝ }
+    requires { ⌜ Judgeable (now job) (now work) (closed .size) (closed .len) (closed .joins) (closed .idle) × Going (now job) (now report) (now work) s × (headIn (now job) ≡ headOf closed) ⌝ }
     ensures { λ r. ⌜ Advanced (now (job .entry)) (now (report .entry)) (now (work .entry)) (now (work .exit)) s r ⌝ }
 {
     let at = s.at;
@@ -145,7 +146,7 @@ fn advance(job: &[u8], report: &[u8], work: &mut [u16], closed: Closed, s: Stand
     let next = behind(job, at);
     match job_field::read(job, at) {
         Field::Bad(_) => Turn::Done(Judgement::Fault(place)),
-        Field::Header(_) => Turn::Done(Judgement::Fault(place)),
+        Field::Header(_, _) => Turn::Done(Judgement::Fault(place)),
         Field::Noted(l) => {
             mark_note(l, work, left(closed), differs);
             Turn::On(Stand {

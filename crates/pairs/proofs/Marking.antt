@@ -10,15 +10,17 @@ use mathlib.Core.List.{List, [], _∷_, _++_, append-nil}
 use lib.ListN.{length, getD, set, length-append, List·getD-append}
 use lib.Seq.{getD-append-seam}
 use Rattle.meaning.specs.Following.{Rec}
+use Rattle.meaning.specs.Limits.{mostDiffers}
 use Rattle.meaning.specs.Reasons.{FirstAt}
 use Rattle.meaning.specs.Joins.{put}
 use Rattle.meaning.proofs.Log.{put-hit, put-miss}
 use Rattle.job_field.specs.Items.{Pair, Note, line, differ, pairsIn}
-use Rattle.table.specs.Map.{seen, recAt, recordsIn, Within}
+use Rattle.table.specs.Map.{recAt, recordsIn, sinceOf, Within}
+use Rattle.table.specs.Places.{Large, Part, SINCE, allOf}
 use Rattle.table.proofs.Frame.{seen-in, seen-within, within-refl, within-set, length-gather}
 use Rattle.report.specs.Broken.{pairNo, Broken, Earliest, Unbroken}
 use Rattle.pairs.specs.Came.{Came}
-use Rattle.pairs.specs.Marks.{sinceOf, Marked, Stored, Noted, Scanned, hit, none}
+use Rattle.pairs.specs.Marks.{Marked, Stored, Noted, Scanned, hit, none}
 use Rattle.pairs.proofs.Coming.{came-equal, came-apart, came-first}
 
 -- A pair by its place.
@@ -33,14 +35,14 @@ pair-last : (ps : List Pair) (p : Pair) (j : ℕ) → j ≡ length ps → pairNo
 pair-last ps p j e = rw (pair-place (ps ++ (p ∷ [])) j, e) (getD-append-seam ps p [] (record { first = 0; second = 0 }))
 
 -- What is kept of the pairs, where nothing is written there.
-pub marked-kept : {rs : List Rec} {ps : List Pair} {a e : ℕ} {w w′ : List ℕ} → Within a e w w′ → e ≤ 32096 → Marked rs ps w → Marked rs ps w′
-marked-kept f h m = record { each = λ j l. let e = seen-within 32096 500 (λ x. 0) f (inr h) in rw e (m .each j l) }
+pub marked-kept : {rs : List Rec} {ps : List Pair} {p : Part} {w w′ : List ℕ} → Within p w w′ → p .upto ≤ SINCE .at → Marked rs ps w → Marked rs ps w′
+marked-kept f h m = record { each = λ j l. let e = seen-within SINCE f (inr h) in rw e (m .each j l) }
 
 -- A note that has no pair, and one that has.
 pub noted-none : (w : List ℕ) (len i : ℕ) (n : Note) → pairsIn n ≡ [] → Noted w w len i n
 noted-none w len i n e = record { kept = within-refl w; marks = λ ps k m. rw (e, append-nil ps) m }
 
-marked-more : {rs : List Rec} (ps : List Pair) (s t number : ℕ) {w w′ : List ℕ} → length ps < 500 → 32768 ≤ length w → w′ ≡ set w (32096 + length ps) number → Came rs (length rs) s t number
+marked-more : {rs : List Rec} (ps : List Pair) (s t number : ℕ) {w w′ : List ℕ} → length ps < mostDiffers → Large w → w′ ≡ set w (SINCE .at + length ps) number → Came rs (length rs) s t number
     → Marked rs ps w → Marked rs (ps ++ (record { first = s; second = t } ∷ [])) w′
 marked-more {rs} ps s t number {w} {w′} few long e c m = record { each = λ j l. go j l (ℕ-discrete j (length ps)) }
   where
@@ -48,7 +50,7 @@ marked-more {rs} ps s t number {w} {w′} few long e c m = record { each = λ j 
     p = record { first = s; second = t }
 
     stored : sinceOf w′ ≡ put (length ps) number (sinceOf w)
-    stored = rw e (seen-in 32096 500 (λ x. 0) w (length ps) number few (omega arith))
+    stored = rw e (seen-in SINCE w (length ps) number few (omega arith))
 
     go : (j : ℕ) → j < length (ps ++ (p ∷ [])) → Dec (j ≡ length ps) → Came rs (length rs) (pairNo (ps ++ (p ∷ [])) (j + 1) .first) (pairNo (ps ++ (p ∷ [])) (j + 1) .second) (sinceOf w′ j)
     go j l (yes q) = rw (pair-last ps p j q, stored, q, put-hit (length ps) number (sinceOf w)) c
@@ -56,9 +58,9 @@ marked-more {rs} ps s t number {w} {w′} few long e c m = record { each = λ j 
         let before : j < length ps = omega (arith, length-append ps (p ∷ [])) in
         rw (pair-before ps p j before, stored, put-miss (length ps) number (sinceOf w) j q) (m .each j before)
 
-pub noted-pair : {w w′ : List ℕ} {len i s t : ℕ} → i < 500 → 32768 ≤ length w → Stored w w′ len i s t → Noted w w′ len i (differ s t)
+pub noted-pair : {w w′ : List ℕ} {len i s t : ℕ} → i < mostDiffers → Large w → Stored w w′ len i s t → Noted w w′ len i (differ s t)
 noted-pair {w} {w′} {len} {i} {s} {t} few long d = record {
-  kept = rw (d .stored) (within-set 32096 32596 w (32096 + i) (d .number) (omega arith) (omega arith));
+  kept = rw (d .stored) (within-set (allOf SINCE) w (SINCE .at + i) (d .number) (omega arith) (omega arith));
   marks = λ ps e m. marked-more ps s t (d .number) (omega arith) long (rw e (d .stored)) (rw (length-gather (λ k. recAt w (suc k)) len) (d .came)) m;
 }
 

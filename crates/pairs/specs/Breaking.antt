@@ -4,7 +4,7 @@ use Prim.Native.Nat.{ℕ, _≤_}
 use mathlib.Core.Path.{_≡_}
 use mathlib.Core.List.{List, _++_}
 use lib.ListN.{length}
-use Rattle.job_field.specs.Items.{Pair, recordsOf, pairsOf}
+use Rattle.job_field.specs.Items.{Head, Pair, recordsOf, pairsOf}
 use Rattle.job_field.specs.Reading.{headIn, itemsIn}
 use Rattle.job_field.specs.Standing.{Job}
 use Rattle.table.specs.Map.{recordsIn}
@@ -12,11 +12,11 @@ use Rattle.table.specs.Past.{Past}
 use Rattle.pairs.specs.Marks.{Marked}
 
 -- The job is accepted, the table holds the past of its records, and of the pairs before the question it keeps when each became equal.
-pub record Breaking (job w : List ℕ) (N len joins before differs : ℕ) : Type 0 where
+pub record Breaking (job w : List ℕ) (H : Head) (len joins before differs : ℕ) : Type 0 where
   pub stands : Job job (headIn job) (itemsIn job)
-  pub size : headIn job .size ≡ N
+  pub head : headIn job ≡ H
   pub records : recordsIn len w ≡ recordsOf (itemsIn job)
-  pub past : Past N len w joins
+  pub past : Past (H .size) len w joins
   pub passed : before ≤ len
   pub pairs : List Pair
   pub more : List Pair

@@ -1,14 +1,16 @@
 // Tags that must differ, while questions are answered: when the tags of each pair became equal, kept in the table once the pair is passed, which pair is the
 // earliest that is broken, and its tags. Document 02, No. 1. Rests on meaning, job_field, table, moment and report.
 ghost use mathlib.Core.Path.{_≡_};
-ghost use Prim.Native.Nat.{_+_, _≤_, _<_};
-ghost use lib.ListN.{length, set};
+ghost use Prim.Native.Nat.{_≤_, _<_};
+ghost use lib.ListN.{length};
+ghost use Rattle.meaning.specs.Limits.{mostDiffers};
 ghost use Rattle.job_field.specs.Items.{pairsIn};
 ghost use Rattle.job_field.specs.Answer.{noteSaid, said};
 ghost use Rattle.table.specs.Map.{recordsIn};
-ghost use Rattle.moment.specs.Posed.{Posed};
+ghost use Rattle.table.specs.Places.{Large};
+ghost use Rattle.moment.specs.Posed.{headOf, Posed};
 ghost use Rattle.pairs.specs.Came.{Came};
-ghost use Rattle.pairs.specs.Marks.{sinceOf, Stored, Marking, Noted, Scanned};
+ghost use Rattle.pairs.specs.Marks.{Stored, Marking, Noted, Scanned};
 ghost use Rattle.pairs.specs.Found.{pairsAt, firstIn, pairOf, Sought, Found};
 use job_field::Field;
 use job_field::Line;
@@ -16,10 +18,12 @@ use job_field::behind;
 use job_field::pairs_in;
 use job_field::read;
 use job_field::wide;
+use meaning::NO_TAG;
 use meaning::Tag;
 use moment::Closed;
 use moment::Question;
-use table::SPARE;
+use table::put_since;
+use table::since;
 
 // The first k such that s and t are equal by records 1 to k, or a number above the records before the question.
 pub fn came(work: &[u16], q: Question) -> usize
@@ -28,41 +32,26 @@ pub fn came(work: &[u16], q: Question) -> usize
 {
     let s = q.s;
     let t = q.t;
-    if s.0 == t.0 {
+    if s.is(t) {
         return 0;
     }
     let b = moment::met(work, s, t);
-    if b >= 1000 {
+    if b >= meaning::MOST_TAGS {
         return q.before + 1;
     }
     moment::made(work, b)
 }
 
-// A number is kept for the pair at a place.
-fn keep(work: &mut [u16], i: usize, k: usize)
-    requires { ⌜ (32768 ≤ length (now work)) × (i < 500) × (k < 65536) ⌝ }
-    ensures { λ _. ⌜ now (work .exit) ≡ set (now (work .entry)) (32096 + i) k ⌝ }
-{
-    work[SPARE + i] = k as u16;
-}
-
-// The number that is kept for the pair at a place.
-pub fn since(work: &[u16], i: usize) -> usize
-    requires { ⌜ (32768 ≤ length (now work)) × (i < 500) ⌝ }
-    ensures { λ k. ⌜ k ≡ sinceOf (now (work .entry)) i ⌝ }
-{
-    wide(work[SPARE + i])
-}
-
 // When the tags of a pair became equal is kept at its place, by all records.
 fn mark(work: &mut [u16], c: Closed, i: usize, s: Tag, t: Tag)
-    requires { ⌜ Posed (now work) (record { size = c .size; len = c .len; joins = c .joins; before = c .len; s = s; t = t }) × (i < 500) ⌝ }
+    requires { ⌜ Posed (now work) (record { size = c .size; unit = c .unit; len = c .len; joins = c .joins; before = c .len; s = s; t = t }) × (i < mostDiffers) ⌝ }
     ensures { λ _. ⌜ Stored (now (work .entry)) (now (work .exit)) (c .len) i (s .0) (t .0) ⌝ }
 {
     let k = came(
         work,
         Question {
             size: c.size,
+            unit: c.unit,
             len: c.len,
             joins: c.joins,
             before: c.len,
@@ -70,12 +59,12 @@ fn mark(work: &mut [u16], c: Closed, i: usize, s: Tag, t: Tag)
             t,
         },
     );
-    keep(work, i, k);
+    put_since(work, i, k);
 }
 
 // A note is passed, where so many pairs stand before it: a pair is marked, a record is not.
 pub fn mark_note(l: Line, work: &mut [u16], c: Closed, i: usize)
-    requires { ⌜ Marking (now work) (c .size) (c .len) (c .joins) i (noteSaid l) ⌝ }
+    requires { ⌜ Marking (now work) (headOf c) (c .len) (c .joins) i (noteSaid l) ⌝ }
     ensures { λ _. ⌜ Noted (now (work .entry)) (now (work .exit)) (c .len) i (noteSaid l) ⌝ }
 {
     match l {
@@ -89,7 +78,7 @@ pub fn mark_note(l: Line, work: &mut [u16], c: Closed, i: usize)
 
 // The number of the earliest of so many pairs whose tags are equal by so many records, or 0.
 pub fn first_broken(work: &[u16], count: usize, before: usize) -> usize
-    requires { ⌜ (32768 ≤ length (now work)) × (count ≤ 500) ⌝ }
+    requires { ⌜ Large (now work) × (count ≤ mostDiffers) ⌝ }
     ensures { λ k. ⌜ Scanned (now (work .entry)) count before k ⌝ }
 {
     let mut i: usize = 0;
@@ -114,7 +103,7 @@ fn pairs_here(field: Field) -> u16
 {
     match field {
         Field::Bad(_) => 0,
-        Field::Header(_) => 0,
+        Field::Header(_, _) => 0,
         Field::Noted(l) => pairs_in(l),
         Field::Posed(_) => 0,
         Field::End => 0,
@@ -127,12 +116,12 @@ fn pair_in(l: Line) -> Differing
 {
     match l {
         Line::Equation(_, _) => Differing {
-            s: Tag(0),
-            t: Tag(0),
+            s: NO_TAG,
+            t: NO_TAG,
         },
         Line::Application(_, _, _) => Differing {
-            s: Tag(0),
-            t: Tag(0),
+            s: NO_TAG,
+            t: NO_TAG,
         },
         Line::Differ(s, t) => Differing { s, t },
     }
@@ -143,21 +132,21 @@ fn pair_here(field: Field) -> Differing
 {
     match field {
         Field::Bad(_) => Differing {
-            s: Tag(0),
-            t: Tag(0),
+            s: NO_TAG,
+            t: NO_TAG,
         },
-        Field::Header(_) => Differing {
-            s: Tag(0),
-            t: Tag(0),
+        Field::Header(_, _) => Differing {
+            s: NO_TAG,
+            t: NO_TAG,
         },
         Field::Noted(l) => pair_in(l),
         Field::Posed(_) => Differing {
-            s: Tag(0),
-            t: Tag(0),
+            s: NO_TAG,
+            t: NO_TAG,
         },
         Field::End => Differing {
-            s: Tag(0),
-            t: Tag(0),
+            s: NO_TAG,
+            t: NO_TAG,
         },
     }
 }

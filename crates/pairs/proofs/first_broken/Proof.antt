@@ -3,7 +3,8 @@
 use Prim.Native.Nat.{ℕ, _-_, _≤_, _<_}
 use native.Mathlib.Omega.{arith}
 use mathlib.Core.Path.{refl}
-use Rattle.pairs.specs.Marks.{sinceOf, hit, none}
+use Rattle.table.specs.Map.{sinceOf}
+use Rattle.pairs.specs.Marks.{hit, none}
 use Rattle.pairs.proofs.Marking.{scan-next}
 use borrow.Author.Needs.{needs}
 use Rattle.pairs.proofs.first_broken.Statement.{statement}

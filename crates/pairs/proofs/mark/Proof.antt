@@ -8,14 +8,14 @@ use Rattle.pairs.proofs.mark.Tie as tie
 came-requires : tie.Need-came-requires
 came-requires c κs = search needs
 
-keep-requires : tie.Need-keep-requires
-keep-requires c κs = search needs
+put-since-requires : tie.Need-put-since-requires
+put-since-requires c κs = search needs
 
 same-length : tie.Need-same-length
 same-length c = search needs
 
 returns : tie.Need-returns
-returns c = record { number = c .before .before .before .before .came .result; came = c .before .before .before .before .came .ensures .0; stored = c .before .before .keep .ensures }
+returns c = record { number = c .before .before .before .before .came .result; came = c .before .before .before .before .came .ensures .0; stored = c .before .before .put-since .ensures }
 
 pub mark-spec : {M : Type 1} → statement M
-mark-spec = tie.close (tie.spec came-requires keep-requires same-length returns)
+mark-spec = tie.close (tie.spec came-requires put-since-requires same-length returns)
