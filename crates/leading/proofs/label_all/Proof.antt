@@ -23,21 +23,21 @@ tag-at-requires c κs = omega (arith, c .loop-test, c .before .before .before .p
 
 next-label-requires : tie.Need-next-label-requires Inv-loop μ-loop
 next-label-requires c κs =
-    let s = c .before .before .before .before in
-    let g = c .before .before .loop .inv .1 in
-    (forest-kept (g .frame) (s .pre .0), s .pre .2, omega (arith, s .pre .1, c .tag-at .ensures), rw (c .tag-at .ensures) (labelled-here (g .frame) (g .labelled)))
+    let s = c .before .before .before .before .before in
+    let g = c .before .before .before .loop .inv .1 in
+    (forest-kept (g .frame) (s .pre .0), s .pre .2, omega (arith, s .pre .1, c .before .tag-at .ensures), rw (c .before .tag-at .ensures) (labelled-here (g .frame) (g .labelled)))
 
 put-label-requires : tie.Need-put-label-requires Inv-loop μ-loop
 put-label-requires c κs =
-    let s = c .before .before .before .before .before .before in
-    let g = c .before .before .before .before .loop .inv .1 in
-    (omega (arith, g .frame .size, s .pre .0 .long), omega (arith, s .pre .1, c .before .before .tag-at .ensures))
+    let s = c .before .before .before .before .before .before .before in
+    let g = c .before .before .before .before .before .loop .inv .1 in
+    (omega (arith, g .frame .size, s .pre .0 .long), omega (arith, s .pre .1, c .before .before .before .tag-at .ensures))
 
 put-seat-requires : tie.Need-put-seat-requires Inv-loop μ-loop
 put-seat-requires c κs =
-    let s = c .before .before .before .before .before .before .before .before .before .before in
-    let g = c .before .before .before .before .before .before .before .before .loop .inv .1 in
-    (rw (c .before .before .before .put-label .ensures) (rw length-set (omega (arith, g .frame .size, s .pre .0 .long))), omega (arith, s .pre .1, c .before .before .before .before .before .before .tag-at .ensures))
+    let s = c .before .before .before .before .before .before .before .before .before .before .before in
+    let g = c .before .before .before .before .before .before .before .before .before .loop .inv .1 in
+    (rw (c .before .before .before .put-label .ensures) (rw length-set (omega (arith, g .frame .size, s .pre .0 .long))), omega (arith, s .pre .1, c .before .before .before .before .before .before .before .tag-at .ensures))
 
 add-i : tie.Need-add-i Inv-loop μ-loop
 add-i c = search needs
@@ -47,9 +47,9 @@ loop-less c = search needs
 
 loop-again : tie.Need-loop-again Inv-loop μ-loop
 loop-again c =
-    let l = c .before .before .before .before .before .before .before .before .before .before .before .loop in
-    let s = c .before .before .before .before .before .before .before .before .before .before .before .before .before in
-    let x = c .before .before .before .before .before .before .before .before .before .tag-at .ensures in
+    let l = c .before .before .before .before .before .before .before .before .before .before .before .before .loop in
+    let s = c .before .before .before .before .before .before .before .before .before .before .before .before .before .before in
+    let x = c .before .before .before .before .before .before .before .before .before .before .tag-at .ensures in
     (omega arith, scan-on (s .pre .0 .long) (omega (arith, s .pre .1)) (l .inv .1) (rw x at (c .before .before .before .before .before .before .before .before .next-label .ensures)) (rw x at (c .before .before .before .before .before .before .put-label .ensures)) (rw x at (c .before .before .put-seat .ensures)))
 
 same-length : tie.Need-same-length Inv-loop μ-loop

@@ -23,28 +23,28 @@ tag-at-requires c κs = omega (arith, c .before .loop .inv .1, c .before .before
 
 label-requires : tie.Need-label-requires Inv-loop μ-loop
 label-requires c κs =
-    let s = c .before .before .before .before in
-    let l = c .before .before .loop in
-    (omega (arith, l .inv .2 .frame .size, s .pre .long), omega (arith, l .inv .1, s .pre .few, c .before .loop-test, c .tag-at .ensures))
+    let s = c .before .before .before .before .before in
+    let l = c .before .before .before .loop in
+    (omega (arith, l .inv .2 .frame .size, s .pre .long), omega (arith, l .inv .1, s .pre .few, c .before .before .loop-test, c .before .tag-at .ensures))
 
 put-seat-requires : tie.Need-put-seat-requires Inv-loop μ-loop
 put-seat-requires c κs =
-    let s = c .before .before .before .before .before .before in
-    let l = c .before .before .before .before .loop in
+    let s = c .before .before .before .before .before .before .before in
+    let l = c .before .before .before .before .before .loop in
     let g = l .inv .2 in
-    let t = c .before .before .before .loop-test in
+    let t = c .before .before .before .before .loop-test in
     let low : l .i - 1 < s .args .size = omega (arith, l .inv .1, t) in
-    (omega (arith, g .frame .size, s .pre .long), omega (arith, rw (c .before .before .tag-at .ensures) at (c .before .label .ensures), ap (λ (f : ℕ → ℕ). f (l .i - 1)) (seat-labels (g .frame)), s .pre .low (l .i - 1) low, s .pre .few))
+    (omega (arith, g .frame .size, s .pre .long), omega (arith, rw (c .before .before .before .tag-at .ensures) at (c .before .label .ensures), ap (λ (f : ℕ → ℕ). f (l .i - 1)) (seat-labels (g .frame)), s .pre .low (l .i - 1) low, s .pre .few))
 
 loop-less : tie.Need-loop-less Inv-loop μ-loop
-loop-less c = omega (arith, c .before .before .before .before .before .before .loop-test)
+loop-less c = omega (arith, c .before .before .before .before .before .before .before .loop-test)
 
 loop-again : tie.Need-loop-again Inv-loop μ-loop
 loop-again c =
-    let l = c .before .before .before .before .before .before .before .loop in
-    let s = c .before .before .before .before .before .before .before .before .before in
-    let t = c .before .before .before .before .before .before .loop-test in
-    let x = c .before .before .before .before .before .tag-at .ensures in
+    let l = c .before .before .before .before .before .before .before .before .loop in
+    let s = c .before .before .before .before .before .before .before .before .before .before in
+    let t = c .before .before .before .before .before .before .before .loop-test in
+    let x = c .before .before .before .before .before .before .tag-at .ensures in
     (omega (arith, t), omega (arith, l .inv .1), seat-on (s .pre) (l .inv .2) (omega (arith, t)) (l .inv .1) (omega (arith, t)) (rw x at (c .before .before .before .before .label .ensures)) (rw x at (c .before .before .put-seat .ensures)))
 
 same-length : tie.Need-same-length Inv-loop μ-loop
