@@ -20,7 +20,7 @@ enum-known-l c = search needs
 mark-requires : tie.Need-mark-requires
 mark-requires c κs =
     let p = rw (ap noteSaid (c .before .before .l .given .1)) at (c .before .before .before .before .before .pre) in
-    (record { past = p .past; early = omega arith; from = p .tags .0; to = p .tags .1 .0 }, omega (arith, p .room))
+    (record { past = p .past; units = p .units; early = omega arith; from = p .tags .0; to = p .tags .1 .0 }, omega (arith, p .room))
 
 returns : tie.Need-returns
 returns c = noted-none _ _ _ _ (rw (c .enum-told .given .1))
