@@ -42,7 +42,7 @@ pub answered-replied : {job w room : List ℕ} {H : Head} {len joins before diff
     → Answered w room H len before out q w′ room′ end → Replied job w room before differs out q w′ room′ end
 answered-replied {job} B a = record {
   field = a .field;
-  right = λ b e d. a .right (matterIn job) b (record { size = B .size; records = sym (B .records); before = e });
+  right = λ b e d. a .right (matterIn job) b (record { head = B .head; records = sym (B .records); before = e });
   front = a .front;
   reached = a .reached;
   kept = a .kept;

@@ -7,7 +7,7 @@ use mathlib.Core.List.{List, [], _∷_}
 use lib.ListN.{length}
 use Rattle.meaning.specs.Following.{Rec, Follows, UpTo}
 use Rattle.meaning.specs.Reasons.{Reason}
-use Rattle.job_field.specs.Items.{Pair, Moment, recordsOf, pairsOf, broken, roomOf}
+use Rattle.job_field.specs.Items.{Head, Pair, Moment, recordsOf, pairsOf, broken, roomOf}
 use Rattle.job_field.specs.Reading.{headIn, itemsIn, matterIn}
 use Rattle.table.specs.Map.{listOf, listIn, recordsIn, Within}
 use Rattle.table.proofs.Frame.{within-refl, length-gather}
@@ -26,23 +26,23 @@ use Rattle.broken_field.specs.Breach.{Broke, Breached}
 pub list-few : {N : ℕ} {rs : List Rec} {R s t : ℕ} (n : ℕ) (w : List ℕ) → Reason N rs R s t (listIn n w) → n ≤ min R (2 * (N - 1))
 list-few n w r = omega (arith, reason-few r, length-gather (listOf w) n)
 
-module _ {job w room : List ℕ} {N len joins before differs out : ℕ} (B : Breaking job w N len joins before differs) where
+module _ {job w room : List ℕ} {H : Head} {len joins before differs out : ℕ} (B : Breaking job w H len joins before differs) where
   module _ {k : ℕ} {p : Differing} (e : Earliest (recordsOf (itemsIn job)) before (pairsOf (itemsIn job)) differs k) (f : Found job k p) where
-    pub broke-there : out + roomOf (record { size = N }) (afterRecords before) broken ≤ length room → Broke w room N len joins before out k (p .s .0) (p .t .0)
+    pub broke-there : out + roomOf H (afterRecords before) broken ≤ length room → Broke w room (H .size) len joins before out k (p .s .0) (p .t .0)
     broke-there h = record {
       past = B .past;
       passed = B .passed;
-      from = rw (B .size) at (f .from);
-      to = rw (B .size) at (f .to);
+      from = rw (B .head) at (f .from);
+      to = rw (B .head) at (f .to);
       number = omega (arith, e .before, breaking-few B);
       equal = rw (B .records) (rw (f .is) at (e .broken));
       fits = h;
     }
 
-    pub breach-replied : {w′ room′ : List ℕ} {end : ℕ} → Breached w room N len before out k (p .s .0) (p .t .0) w′ room′ end → Replied job w room before differs out broken w′ room′ end
+    pub breach-replied : {w′ room′ : List ℕ} {end : ℕ} → Breached w room (H .size) len before out k (p .s .0) (p .t .0) w′ room′ end → Replied job w room before differs out broken w′ room′ end
     breach-replied b = record {
       field = field 134 (numbers (k ∷ b .list));
-      right = λ m x y. breached {k = k} {L = b .list} (rw (x, y) e) (rw (x, B .size, f .is) (rw (B .records) at (b .reason)));
+      right = λ m x y. breached {k = k} {L = b .list} (rw (x, y) e) (rw (x, B .head, f .is) (rw (B .records) at (b .reason)));
       front = b .front;
       reached = b .reached;
       kept = b .kept;

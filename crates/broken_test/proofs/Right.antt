@@ -9,9 +9,10 @@ use mathlib.Core.List.{List, [], _∷_, _++_}
 use lib.ListN.{length, drop}
 use Rattle.meaning.specs.Following.{Rec}
 use Rattle.meaning.specs.Reasons.{Reason}
-use Rattle.job_field.specs.Items.{Moment, recordsOf, pairsOf, broken}
+use Rattle.job_field.specs.Items.{Head, Moment, recordsOf, pairsOf, broken}
 use Rattle.job_field.specs.Reading.{headIn, itemsIn, matterIn}
-use Rattle.table.specs.Map.{recordsIn, Within}
+use Rattle.table.specs.Map.{recordsIn, sinceOf, Within}
+use Rattle.table.specs.Places.{scratch}
 use Rattle.table.proofs.Frame.{within-refl}
 use Rattle.report.specs.Broken.{pairNo, Earliest, Unbroken}
 use Rattle.report.specs.Report.{two, numbers, field, Answers, breached, intact}
@@ -31,7 +32,7 @@ use Rattle.answer_ask.proofs.Right.{found, right-same}
 use Rattle.judge_explain.specs.Right.{Reasoned, Known}
 use Rattle.judge_explain.proofs.Right.{Whole}
 use Rattle.pairs.specs.declared.Differing.{Differing}
-use Rattle.pairs.specs.Marks.{sinceOf, Scanned}
+use Rattle.pairs.specs.Marks.{Scanned}
 use Rattle.pairs.specs.Found.{Found}
 use Rattle.pairs.specs.Breaking.{Breaking}
 use Rattle.pairs.proofs.Breaking.{breaking-first}
@@ -113,7 +114,7 @@ pub intact-not : {report : List ℕ} {at : ℕ} → (Holds report at (field 135 
 intact-not {report} {at} n = wrong (λ x. let r = found report at x in n (rw (r .is) at (r .holds)))
 
 -- What is right by the table is right for the job.
-module _ {job w report : List ℕ} {N len joins before differs : ℕ} (B : Breaking job w N len joins before differs) {at : ℕ} {answer : Passed} where
+module _ {job w report : List ℕ} {H : Head} {len joins before differs : ℕ} (B : Breaking job w H len joins before differs) {at : ℕ} {answer : Passed} where
   pub checked-none : Unbroken (recordsOf (itemsIn job)) before (pairsOf (itemsIn job)) differs → RightAt IntactField report at answer → Checked job report w w before differs at answer
   checked-none u h = record { kept = within-refl w; right = λ b x y. right-same (λ f e. rw e (intact (rw (x, y) u))) (λ f a. only x y a) h }
     where
@@ -122,13 +123,13 @@ module _ {job w report : List ℕ} {N len joins before differs : ℕ} (B : Break
       only x y (intact v) = refl
 
   module _ {k : ℕ} {p : Differing} {q : Question} (s : Scanned w differs before k) (e : Earliest (recordsOf (itemsIn job)) before (pairsOf (itemsIn job)) differs k) (f : Found job k p)
-      (z : q ≡ record { size = N; len = len; joins = joins; before = before; s = p .s; t = p .t }) where
+      (z : q ≡ record { size = H .size; unit = H .units; len = len; joins = joins; before = before; s = p .s; t = p .t }) where
     pub breach-known : {first : ℕ} → first ≡ sinceOf w (k - 1) → Known w q first
     breach-known i =
         let r = breaking-first B s (e .number) in
         rw (z, i)
         (record {
-          posed = record { past = B .past; early = B .passed; from = rw (B .size) at (f .from); to = rw (B .size) at (f .to) };
+          posed = record { past = B .past; units = rw (B .head) at (B .stands .units); early = B .passed; from = rw (B .head) at (f .from); to = rw (B .head) at (f .to) };
           early = r .0;
           first = rw (B .records) (rw (f .is) at (r .1));
         })
@@ -137,13 +138,13 @@ module _ {job w report : List ℕ} {N len joins before differs : ℕ} (B : Break
     checked-some h = record { kept = h .kept; right = λ b x y. right-same (λ g o. there x y o) (λ g a. back x y a) (rw z at (h .right)) }
       where
         Q : Question
-        Q = record { size = N; len = len; joins = joins; before = before; s = p .s; t = p .t }
+        Q = record { size = H .size; unit = H .units; len = len; joins = joins; before = before; s = p .s; t = p .t }
 
         there : {b : Moment} {g : List ℕ} → b .records ≡ before → b .differs ≡ differs → BreachField w Q k g → Answers (matterIn job) b broken g
-        there x y (of {L = L} r) = breached {k = k} {L = L} (rw (x, y) e) (rw (x, B .size, f .is) (rw (B .records) at r))
+        there x y (of {L = L} r) = breached {k = k} {L = L} (rw (x, y) e) (rw (x, B .head, f .is) (rw (B .records) at r))
 
         back : {b : Moment} {g : List ℕ} → b .records ≡ before → b .differs ≡ differs → Answers (matterIn job) b broken g → BreachField w Q k g
         back x y (breached {k = k′} {L = L} e′ r) =
             let i : k′ ≡ k = earliest-one (rw (x, y) at e′) e in
-            rw i (of {L = L} (rw (B .records) (rw (x, B .size, i, f .is) at r)))
+            rw i (of {L = L} (rw (B .records) (rw (x, B .head, i, f .is) at r)))
         back x y (intact u) = absurd (earliest-some e (rw (x, y) at u))

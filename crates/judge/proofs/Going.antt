@@ -40,8 +40,8 @@ use Rattle.judge.specs.Going.{Going, Turned, on, done, behind as turnBeh
 use Rattle.answer_ask.proofs.Right.{found}
 
 -- What the table knows of the job at a moment.
-pub known-here : {job w : List ℕ} {N len joins before differs : ℕ} → Breaking job w N len joins before differs → (b : Moment) → b .records ≡ before → Known (matterIn job) b N (recordsIn len w) before
-known-here B b e = record { size = B .size; records = sym (B .records); before = e }
+pub known-here : {job w : List ℕ} {H : Head} {len joins before differs : ℕ} → Breaking job w H len joins before differs → (b : Moment) → b .records ≡ before → Known (matterIn job) b H (recordsIn len w) before
+known-here B b e = record { head = B .head; records = sym (B .records); before = e }
 
 -- The table's data are kept by what writes only from the list on.
 pub judgeable-kept : {job w w′ : List ℕ} {N len joins idle e : ℕ} → Within (fromTo (LIST .at) e) w w′ → Judgeable job w N len joins idle → Judgeable job w′ N len joins idle
@@ -120,10 +120,10 @@ module _ {job report w : List ℕ} {s : Stand} (g : Going job report w s) where
         fault = λ p f. o .fault p (past f);
       })
 
-  pub marking-there : {N len joins : ℕ} (m : Note) → Job job (headIn job) (itemsIn job) → headIn job .size ≡ N → Past N len w joins → fieldAt job (s .at) ≡ item (noted m) → Marking w N len joins (s .differs) m
+  pub marking-there : {H : Head} {len joins : ℕ} (m : Note) → Job job (headIn job) (itemsIn job) → headIn job ≡ H → Past (H .size) len w joins → fieldAt job (s .at) ≡ item (noted m) → Marking w H len joins (s .differs) m
   marking-there m j z p e =
       let y = met (noted m) e in
-      record { past = p; tags = rw z at (y .tags); room = guarded-room m (pairsOf (y .rest)) j (rw (y .first) at (g .guarded)) }
+      record { past = p; units = rw z at (j .units); tags = rw z at (y .tags); room = guarded-room m (pairsOf (y .rest)) j (rw (y .first) at (g .guarded)) }
 
   -- A question whose field is right, or wrong.
   going-question : (q : Question) (n : ℕ) {w′ : List ℕ} → Within scratch w w′ → n ≡ behindAt job (s .at) → fieldAt job (s .at) ≡ item (posed q) → (a : Passed) → RightAt (Answers (matterIn job) (g .moment) q) report (s .place) a
@@ -206,10 +206,10 @@ going-end {job} {report} {w} {N} {len} {joins} {idle} {s} J g e a h =
     whole o (fault {p = p} t) = fault (o .fault p t)
 
 -- An item of the job as the code meets it.
-module _ {job report w : List ℕ} (c : Closed) (s : Stand) (J : Judgeable job w (c .size) (c .len) (c .joins) (c .idle)) (g : Going job report w s) where
-  pub testing-there : (q : Question) → fieldAt job (s .at) ≡ item (posed q) → Testing job report w (c .size) (c .len) (c .joins) (s .before) (s .differs) (s .place) q
+module _ {job report w : List ℕ} (c : Closed) (s : Stand) (J : Judgeable job w (c .size) (c .len) (c .joins) (c .idle)) (g : Going job report w s) (top : headIn job ≡ headOf c) where
+  pub testing-there : (q : Question) → fieldAt job (s .at) ≡ item (posed q) → Testing job report w (headOf c) (c .len) (c .joins) (s .before) (s .differs) (s .place) q
   testing-there q e = record {
-    breaking = breaking-here (pairsOf (g .left)) (J .accepted) (J .size) (J .held) (J .past) (omega (arith, before-most g, J .count)) (g .guarded);
+    breaking = breaking-here (pairsOf (g .left)) (J .accepted) top (J .held) (J .past) (omega (arith, before-most g, J .count)) (g .guarded);
     tags = rw (J .size) at (item-tags g q e);
     within = g .within;
   }
@@ -238,4 +238,5 @@ head-read {job} J u e = let z : u ≡ headIn job .units = e ∙ ap unitsOf (J .a
 pub record Judging (job report w₀ w : List ℕ) (c : Closed) (s : Stand) : Type 0 where
   pub kept : Within behindJoins w₀ w
   pub judgeable : Judgeable job w (c .size) (c .len) (c .joins) (c .idle)
+  pub top : headIn job ≡ headOf c
   pub going : Going job report w s

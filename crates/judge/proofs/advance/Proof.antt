@@ -32,7 +32,7 @@ left-requires c κs = search needs
 mark-note-requires : tie.Need-mark-note-requires
 mark-note-requires c κs =
     let e = sym (@read .ensures) ∙ ap said (@l .given .1) in
-    rw (@left .ensures) (marking-there (@pre .1) _ (@pre .0 .accepted) (@pre .0 .size) (@pre .0 .past) e)
+    rw (@left .ensures) (marking-there (@pre .1) _ (@pre .0 .accepted) (@pre .2) (@pre .0 .past) e)
 
 stands-for-requires : tie.Need-stands-for-requires
 stands-for-requires c κs = search needs
@@ -58,7 +58,7 @@ enum-known-q c = search needs
 tested-requires : tie.Need-tested-requires
 tested-requires c κs =
     let e = sym (@read .ensures) ∙ ap said (@q .given .1) in
-    testing-there (@args .closed) (@args .s) (@pre .0) (@pre .1) _ e
+    testing-there (@args .closed) (@args .s) (@pre .0) (@pre .1) (@pre .2) _ e
 
 onward-requires : tie.Need-onward-requires
 onward-requires c κs = search needs
@@ -70,7 +70,7 @@ sub-ended : tie.Need-sub-ended
 sub-ended c = search needs
 
 ended-requires : tie.Need-ended-requires
-ended-requires c κs = totals-fit (@args .closed) (@args .s) (@pre .0) (@pre .1)
+ended-requires c κs = totals-fit (@args .closed) (@args .s) (@pre .0) (@pre .1) (@pre .2)
 
 returns : tie.Need-returns
 returns c = absurd (going-bad (@pre .1) _ (sym (@read .ensures) ∙ ap said (@enum-told .given .1)))
@@ -98,7 +98,7 @@ returns-4 c =
     let e = sym (@read .ensures) ∙ ap said (@q .given .1) in
     record {
       kept = within-wider behindJoins (omega arith) (omega arith) (@tested .ensures .kept);
-      turned = turn-question (@args .closed) (@args .s) (@pre .0) (@pre .1) _ _ (@behind .ensures) e (@tested .result) (@tested .ensures) _ (@onward .ensures);
+      turned = turn-question (@args .closed) (@args .s) (@pre .0) (@pre .1) (@pre .2) _ _ (@behind .ensures) e (@tested .result) (@tested .ensures) _ (@onward .ensures);
     }
 
 returns-5 : tie.Need-returns-5

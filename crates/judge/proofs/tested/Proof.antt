@@ -1,10 +1,8 @@
 -- `judge::tested` meets its contract, question by question.
 -- Assumes nothing.
 use mathlib.Core.Path.{sym, ap}
-use denote.Ref.{now}
 use Rattle.job_field.specs.Answer.{questionSaid}
 use Rattle.job_field.specs.Reading.{matterIn}
-use Rattle.table.proofs.Frame.{within-refl}
 use Rattle.report.specs.Report.{Known}
 use Rattle.report.proofs.Known.{ask-known, ask-tabled, explain-known, explain-tabled}
 use Rattle.answer_ask.proofs.Right.{right-same}
@@ -20,7 +18,7 @@ posed-requires : tie.Need-posed-requires
 posed-requires c κs = search needs
 
 led-requires : tie.Need-led-requires
-led-requires c κs = let t = rw (ap questionSaid (@q .given .1)) at (@pre) in (rw (@posed .ensures) (record { past = t .breaking .past; early = t .breaking .passed; from = t .tags .0; to = t .tags .1 .0 }), t .within)
+led-requires c κs = let t = rw (ap questionSaid (@q .given .1)) at (@pre) in (rw (@posed .ensures) (record { past = t .breaking .past; units = rw (t .breaking .head) at (t .breaking .stands .units); early = t .breaking .passed; from = t .tags .0; to = t .tags .1 .0 }), t .within)
 
 enum-known-q-2 : tie.Need-enum-known-q-2
 enum-known-q-2 c = search needs
@@ -29,7 +27,7 @@ posed-requires-2 : tie.Need-posed-requires-2
 posed-requires-2 c κs = search needs
 
 explained-requires : tie.Need-explained-requires
-explained-requires c κs = let t = rw (ap questionSaid (@q2 .given .1)) at (@pre) in (rw (@posed2 .ensures) (record { past = t .breaking .past; early = t .breaking .passed; from = t .tags .0; to = t .tags .1 .0 }), t .within)
+explained-requires c κs = let t = rw (ap questionSaid (@q2 .given .1)) at (@pre) in (rw (@posed2 .ensures) (record { past = t .breaking .past; units = rw (t .breaking .head) at (t .breaking .stands .units); early = t .breaking .passed; from = t .tags .0; to = t .tags .1 .0 }), t .within)
 
 enum-told : tie.Need-enum-told
 enum-told c = search needs
@@ -46,7 +44,7 @@ same-length c = search needs
 returns : tie.Need-returns
 returns c =
     rw (ap questionSaid (@q .given .1))
-    (record { kept = within-refl (now (@args .work)); right = λ b e d. let K = known-here (@pre .breaking) b e in right-same (ask-known K) (ask-tabled K) (rw (@posed .ensures) at (@led .ensures)) })
+    (record { kept = @led .ensures .kept; right = λ b e d. let K = known-here (@pre .breaking) b e in right-same (ask-known K) (ask-tabled K) (rw (@posed .ensures) at (@led .ensures .right)) })
 
 same-length-2 : tie.Need-same-length-2
 same-length-2 c = search needs
