@@ -114,8 +114,8 @@ pub intact-not : {report : List ℕ} {at : ℕ} → (Holds report at (field 135 
 intact-not {report} {at} n = wrong (λ x. let r = found report at x in n (rw (r .is) at (r .holds)))
 
 -- What is right by the table is right for the job.
-module _ {job w report : List ℕ} {H : Head} {len joins before differs : ℕ} (B : Breaking job w H len joins before differs) {at : ℕ} {answer : Passed} where
-  pub checked-none : Unbroken (recordsOf (itemsIn job)) before (pairsOf (itemsIn job)) differs → RightAt IntactField report at answer → Checked job report w w before differs at answer
+module _ {job w : List ℕ} {H : Head} {len joins before differs : ℕ} (B : Breaking job w H len joins before differs) where
+  pub checked-none : {report : List ℕ} {at : ℕ} {answer : Passed} → Unbroken (recordsOf (itemsIn job)) before (pairsOf (itemsIn job)) differs → RightAt IntactField report at answer → Checked job report w w before differs at answer
   checked-none u h = record { kept = within-refl w; right = λ b x y. right-same (λ f e. rw e (intact (rw (x, y) u))) (λ f a. only x y a) h }
     where
       only : {b : Moment} {f : List ℕ} → b .records ≡ before → b .differs ≡ differs → Answers (matterIn job) b broken f → f ≡ field 135 []
@@ -134,7 +134,7 @@ module _ {job w report : List ℕ} {H : Head} {len joins before differs : ℕ} (
           first = rw (B .records) (rw (f .is) at (r .1));
         })
 
-    pub checked-some : {w′ : List ℕ} → Breached w w′ report at q k answer → Checked job report w w′ before differs at answer
+    pub checked-some : {w′ report : List ℕ} {at : ℕ} {answer : Passed} → Breached w w′ report at q k answer → Checked job report w w′ before differs at answer
     checked-some h = record { kept = h .kept; right = λ b x y. right-same (λ g o. there x y o) (λ g a. back x y a) (rw z at (h .right)) }
       where
         Q : Question

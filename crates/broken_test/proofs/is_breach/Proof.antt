@@ -11,7 +11,7 @@ returns : tie.Need-returns
 returns c = breach-short (c .if1 .taken)
 
 number-in-requires : tie.Need-number-in-requires
-number-in-requires c κs = omega (arith, c .pre .1, c .if1 .left)
+number-in-requires c κs = omega (arith, c .before .before .before .pre .1, c .if1 .left)
 
 wide-requires : tie.Need-wide-requires
 wide-requires c κs = search needs
@@ -23,7 +23,7 @@ add-is-reason : tie.Need-add-is-reason
 add-is-reason c = search needs
 
 is-reason-requires : tie.Need-is-reason-requires
-is-reason-requires c κs = (c .pre .0, omega (arith, c .pre .1, c .before .before .before .before .if1 .left))
+is-reason-requires c κs = (c .before .before .before .before .before .before .before .pre .0, omega (arith, c .before .before .before .before .before .before .before .pre .1, c .before .before .before .before .if1 .left))
 
 same-length : tie.Need-same-length
 same-length c = search needs
