@@ -9,7 +9,7 @@ use Rattle.meaning.specs.Reasons.{Reason}
 use Rattle.job_field.specs.Items.{Head, Matter, matterOf, Note, Moment, start, after, Question, explain, broken, Item, noted, posed, accepted}
 use Rattle.job_field.specs.Reading.{reading}
 use Rattle.report.specs.Report.{numbers, field, Answers, Totalled}
-use Rattle.report.specs.Broken.{PairReason}
+use Rattle.report.specs.Broken.{Earliest, PairReason}
 use Rattle.records.specs.declared.Record.{Record}
 
 -- Two reports of the same items from a moment on, both of right fields, that differ at most in which reason stands where an explain is answered by
@@ -20,7 +20,7 @@ pub data Alike (M : Matter) : Moment → List Item → List ℕ → List ℕ →
   answered : {b : Moment} {q : Question} {is : List Item} {f bs bs′ : List ℕ} → Answers M b q f → Alike M (after (posed q) b) is bs bs′ → Alike M b (posed q ∷ is) (f ++ bs) (f ++ bs′)
   reasoned : {b : Moment} {s t : ℕ} {is : List Item} {L L′ bs bs′ : List ℕ} → Reason (M .head .size) (M .records) (b .records) s t L → Reason (M .head .size) (M .records) (b .records) s t L′
       → Alike M (after (posed (explain s t)) b) is bs bs′ → Alike M b (posed (explain s t) ∷ is) (field 132 (numbers L) ++ bs) (field 132 (numbers L′) ++ bs′)
-  breached : {b : Moment} {k : ℕ} {is : List Item} {L L′ bs bs′ : List ℕ} → PairReason M b k L → PairReason M b k L′
+  breached : {b : Moment} {k : ℕ} {is : List Item} {L L′ bs bs′ : List ℕ} → Earliest (M .records) (b .records) (M .pairs) (b .differs) k → PairReason M b k L → PairReason M b k L′
       → Alike M (after (posed broken) b) is bs bs′ → Alike M b (posed broken ∷ is) (field 134 (numbers (k ∷ L)) ++ bs) (field 134 (numbers (k ∷ L′)) ++ bs′)
 
 -- Two outcomes of a run on the same job and room: number and place are one, both tables are one, and so are length and room, but for the choice

@@ -65,7 +65,7 @@ same-length-3 : tie.Need-same-length-3
 same-length-3 c = search needs
 
 returns-3 : tie.Need-returns-3
-returns-3 c = rw (@enum-told .given .1) (@put-broken .ensures)
+returns-3 c = rw (c .before .before .before .before .enum-told .given .1) (c .before .before .put-broken .ensures)
 
 pub put-question-spec : {M : Type 1} → statement M
 put-question-spec =
