@@ -247,7 +247,7 @@ static void make_differ(struct bytes *out, int size, uint64_t seed, long index)
     int n = 2 + random_below(&state, size - 1 > 0 ? size - 1 : 1);
     int records = random_below(&state, 25), pairs = random_below(&state, 9), questions = 1 + random_below(&state, 9);
     int applied = 20 * random_below(&state, 6), twice = 25 * random_below(&state, 5);
-    tags(out, n);
+    any_tags(out, n, &state);
     while (records + pairs + questions > 0) {
         int next = random_below(&state, records + pairs + questions), s = random_below(&state, n), t = random_below(&state, n);
         if (next < records) {
