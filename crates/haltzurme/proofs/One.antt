@@ -11,11 +11,13 @@ use Rattle.meaning.specs.Following.{UpTo, Leader}
 use Rattle.meaning.proofs.Units.{leader-one}
 use Rattle.meaning.proofs.Laws.{classes-one, idles-one, reason-follows}
 use Rattle.meaning.specs.Limits.{namedNumbers, namedPlaces}
-use Rattle.job_field.specs.Items.{Head, Matter, matterOf, Moment, start, after, ask, Item, posed, Reading, refused, accepted, neededRoom}
+use Rattle.job_field.specs.Items.{Head, Matter, matterOf, Moment, start, after, ask, broken, Item, posed, Reading, refused, accepted, neededRoom}
 use Rattle.job_field.specs.Reading.{reading}
 use Rattle.records.specs.declared.Record.{Record}
 use Rattle.records.specs.Table.{blank, Blanked}
-use Rattle.report.specs.Report.{numbers, field, led, because, apart, Totalled, total, Sound, totals, passed, answered}
+use Rattle.report.specs.Broken.{Earliest, PairReason}
+use Rattle.report.proofs.Broken.{earliest-one, earliest-some}
+use Rattle.report.specs.Report.{numbers, field, led, because, apart, breached, intact, Totalled, total, Sound, totals, passed, answered}
 use Rattle.call_look.specs.Clear.{Cleared}
 use Rattle.call_look.specs.Lent.{Lent}
 use Rattle.haltzurme.specs.Run.{Ran, long, narrow, unread, cramped, done}
@@ -44,6 +46,12 @@ led-alike : {M : Matter} {b : Moment} {s t l m l′ m′ : ℕ} {is : List Item}
     → Alike M b (posed (ask s t) ∷ is) (field 131 (numbers (l ∷ m ∷ [])) ++ bs) (field 131 (numbers (l′ ∷ m′ ∷ [])) ++ bs′)
 led-alike h k p q a = rw (p, q) (alike.answered (led h k) a)
 
+breach-alike : {M : Matter} {b : Moment} {k k′ : ℕ} {is : List Item} {L L′ bs bs′ : List ℕ} → Earliest (M .records) (b .records) (M .pairs) (b .differs) k → Earliest (M .records) (b .records) (M .pairs) (b .differs) k′ → PairReason M b k L → PairReason M b k′ L′ → Alike M (after (posed broken) b) is bs bs′
+    → Alike M b (posed broken ∷ is) (field 134 (numbers (k ∷ L)) ++ bs) (field 134 (numbers (k′ ∷ L′)) ++ bs′)
+breach-alike {k = k} {k′ = k′} {L = L} {L′ = L′} e e′ r r′ a =
+    let i : k ≡ k′ = earliest-one e e′ in
+    rw i (alike.breached {k = k′} {L = L} {L′ = L′} e′ (rw i at r) r′ a)
+
 -- Two sound reports of the same items differ at most in the choice among reasons.
 pub sound-alike : {M : Matter} {b : Moment} {is : List Item} {bs bs′ : List ℕ} → Sound M b is bs → Sound M b is bs′ → Alike M b is bs bs′
 sound-alike (totals t) (totals u) = rw (totalled-one t u) (alike.totals u)
@@ -53,6 +61,10 @@ sound-alike (answered (because r) s) (answered (because r′) u) = reasoned r r�
 sound-alike (answered (because r) s) (answered (apart n) u) = absurd (n (reason-follows r))
 sound-alike (answered (apart n) s) (answered (because r) u) = absurd (n (reason-follows r))
 sound-alike (answered (apart n) s) (answered (apart n′) u) = alike.answered (apart n) (sound-alike s u)
+sound-alike (answered (breached e r) s) (answered (breached e′ r′) u) = breach-alike e e′ r r′ (sound-alike s u)
+sound-alike (answered (breached e r) s) (answered (intact n) u) = absurd (earliest-some e n)
+sound-alike (answered (intact n) s) (answered (breached e r) u) = absurd (earliest-some e n)
+sound-alike (answered (intact n) s) (answered (intact n′) u) = alike.answered (intact n) (sound-alike s u)
 
 -- What is long enough is not short.
 pub lent-not : {job : List ℕ} {records : List Record} {work : List ℕ} → Lent job records work → (length records < namedPlaces) ⊎ (length work < namedNumbers) → ⊥

@@ -24,7 +24,7 @@ use Rattle.meaning.specs.Limits.{mostTags}
 use Rattle.table.specs.Map.{whenOf, firstOf, secondOf, listOf, listIn, recAt, recordsIn, joinAt, Loaded, Within}
 use Rattle.table.proofs.Frame.{length-gather, getD-gather, gather-in, within-refl, within-trans, within-wider}
 use Rattle.table.specs.Past.{Past, ageAfter}
-use Rattle.table.specs.Places.{LIST, Part, scratch, spare}
+use Rattle.table.specs.Places.{LIST, Part, SINCE, scratch}
 use Rattle.moment.specs.Meeting.{Met}
 use Rattle.moment.specs.Holding.{Holds, marked}
 use Rattle.reason_follow.specs.Tracing.{Together, Traced, Unmarked, Unfollowed}
@@ -89,7 +89,7 @@ small-records {N} {len} {w} h i l =
     let k : i < len = rw (length-gather (λ j. recAt w (suc j)) len) at l in
     rw (getD-gather (λ j. recAt w (suc j)) len i (eq 0 0) k) (h .small i k)
 
-wide : {p : Part} {w w′ : List ℕ} → LIST .at ≤ p .from → p .upto ≤ spare → Within p w w′ → Within scratch w w′
+wide : {p : Part} {w w′ : List ℕ} → LIST .at ≤ p .from → p .upto ≤ SINCE .at → Within p w w′ → Within scratch w w′
 wide l m f = within-wider scratch l m f
 
 module _ {N len n s t b : ℕ} {w : List ℕ} (J : Joining N len n s t b w) where

@@ -33,3 +33,14 @@ reason-laid at n work room x y fits h k =
     k
     ∙ laid-then at (at + 3) (front 132 (2 * n)) (numbers (listIn n work)) room x (omega arith) refl h
     ∙ ap (λ (m : ℕ). laid at (front 132 m ++ numbers (listIn n work)) room) (sym (length-list work n))
+
+-- The same with a number before those of the list.
+pub breach-laid : (at k n : ℕ) (work room x y z : List ℕ) → at + 5 + 2 * n ≤ length room
+    → x ≡ laid at (front 134 (2 + 2 * n)) room → y ≡ laid (at + 3) (two k) x → z ≡ laid (at + 5) (numbers (listIn n work)) y
+    → z ≡ laid at (field 134 (numbers (k ∷ listIn n work))) room
+unfolding field front two numbers
+breach-laid at k n work room x y z fits h i j =
+    let m : length (numbers (k ∷ listIn n work)) ≡ 2 + 2 * n = omega (arith, length-list work n) in
+    j
+    ∙ laid-then at (at + 5) (front 134 (2 + 2 * n) ++ two k) (numbers (listIn n work)) room y (omega arith) (omega arith) (i ∙ laid-then at (at + 3) (front 134 (2 + 2 * n)) (two k) room x (omega arith) refl h)
+    ∙ ap (λ (s : ℕ). laid at (front 134 s ++ numbers (k ∷ listIn n work)) room) (sym m)

@@ -12,7 +12,7 @@ use Rattle.meaning.specs.Following.{Rec, eq, app}
 use Rattle.meaning.specs.Joins.{Join, by, cong}
 use Rattle.meaning.proofs.Reference.{Small}
 use Rattle.meaning.specs.Limits.{mostRecords, mostTags}
-use Rattle.table.specs.Places.{AGE, BUCKETS, CHAIN, EQUATION, FIRST, FRONT, HEADS, LABEL, LEFT, LIST, Large, MARKS, MEMBER, NEXT, PARENT, Part, QUEUE, RESULT, RIGHT, Region, SAVED, SECOND, TRAIL, WAITS, WHEN, beforeAt, columnSize, endAt, frontSize, moreAt, plain, useAt}
+use Rattle.table.specs.Places.{AGE, BUCKETS, CHAIN, EQUATION, FIRST, FRONT, HEADS, LABEL, LEFT, LIST, Large, MARKS, MEMBER, NEXT, PARENT, Part, QUEUE, RESULT, RIGHT, Region, SAVED, SECOND, TRAIL, WAITS, WHEN, beforeAt, columnSize, endAt, frontSize, moreAt, plain, useAt, SINCE}
 
 -- A region as a function from its own numbers.
 unfoldable pub seen : Region → List ℕ → ℕ → ℕ
@@ -67,6 +67,10 @@ markOf w = seen MARKS w
 -- By tag: a label that was saved.
 abbrev pub savedOf : List ℕ → ℕ → ℕ
 savedOf w = seen SAVED w
+
+-- By place of a pair that must differ: the number that is kept for it.
+abbrev pub sinceOf : List ℕ → ℕ → ℕ
+sinceOf w = seen SINCE w
 
 -- While spare records are taken out. By place: the record number, or 0 where it was left out. By tag: the next tag of its class. By join: the label that went.
 abbrev pub placeOf : List ℕ → ℕ → ℕ

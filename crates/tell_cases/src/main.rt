@@ -64,6 +64,18 @@ fn small() {
     );
 }
 
+// Pairs that must differ: none is broken, then the second with no record, then the first with one; and an answer that is cut behind its number.
+fn broken() {
+    let job =
+        b"\x10\x00\x02\x00\x02\x05\x00\x04\x00\x00\x00\x01\x06\x00\x00\x05\x00\x04\x00\x00\x00\x00\x06\x00\x00\x01\x00\x04\x00\x00\x00\x01\x06\x00\x00\x7F\x00\x00";
+    report(
+        b"broken\n",
+        job,
+        b"\x87\x00\x00\x86\x00\x02\x00\x02\x86\x00\x04\x00\x01\x00\x01\x8F\x00\x04\x00\x01\x00\x00",
+    );
+    report(b"cut_in_a_pair\n", job, b"\x87\x00\x00\x86\x00\x04\x00\x02");
+}
+
 // What is not there counts as 0, and of a body only the whole numbers that are there.
 fn cut() {
     let job =
@@ -79,7 +91,7 @@ fn cut() {
 
 fn refusals() {
     report(b"refused_jobs\n", b"", b"\x8F\x00\x04\x00\x02\x00\x00");
-    report(b"", b"\x10\x00\x02\x00\x02\x05\x00\x00", b"");
+    report(b"", b"\x10\x00\x02\x00\x02\x09\x00\x00", b"");
     io::write_all(1, b"refusals\n");
     refusal(1, 0);
     refusal(9, 0);
@@ -111,6 +123,7 @@ fn main() {
     inspector();
     digits();
     small();
+    broken();
     cut();
     refusals();
     rooms();

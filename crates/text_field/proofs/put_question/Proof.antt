@@ -43,6 +43,12 @@ shown-requires-4 c κs = search needs
 put-explain-requires : tie.Need-put-explain-requires
 put-explain-requires c κs = search needs
 
+enum-told : tie.Need-enum-told
+enum-told c = search needs
+
+put-broken-requires : tie.Need-put-broken-requires
+put-broken-requires c κs = search needs
+
 same-length : tie.Need-same-length
 same-length c = search needs
 
@@ -54,6 +60,12 @@ same-length-2 c = search needs
 
 returns-2 : tie.Need-returns-2
 returns-2 c = rw (c .before .before .before .before .before .before .before .q2 .given .1) (put-as (explain-as _ _ (c .before .before .before .before .before .shown3 .ensures) (c .before .before .before .before .shown4 .ensures)) (c .before .before .put-explain .ensures))
+
+same-length-3 : tie.Need-same-length-3
+same-length-3 c = search needs
+
+returns-3 : tie.Need-returns-3
+returns-3 c = rw (c .before .before .before .before .enum-told .given .1) (c .before .before .put-broken .ensures)
 
 pub put-question-spec : {M : Type 1} → statement M
 put-question-spec =
@@ -71,7 +83,11 @@ put-question-spec =
     shown-requires-3
     shown-requires-4
     put-explain-requires
+    enum-told
+    put-broken-requires
     same-length
     returns
     same-length-2
-    returns-2)
+    returns-2
+    same-length-3
+    returns-3)
