@@ -160,6 +160,8 @@ static void history_literally(struct history *history, const struct job *job)
         m->follows = literal_same(&after[q->before], q->s, q->t);
         m->leader_s = literal_leader(&after[q->before], job, q->s);
         m->leader_t = literal_leader(&after[q->before], job, q->t);
+        for (int x = 0; q->why && x < job->tags; x++)
+            history->leaders[i][x] = (unsigned short)literal_leader(&after[q->before], job, x);
         m->classes = literal_classes(&after[q->before], job->tags);
         m->first = 0;
         if (m->follows)
@@ -190,6 +192,8 @@ static void history_by_use_lists(struct history *history, const struct job *job)
         m->follows = closure_same(closure, q->s, q->t);
         m->leader_s = leader(closure, job, q->s);
         m->leader_t = leader(closure, job, q->t);
+        for (int x = 0; q->why && x < job->tags; x++)
+            history->leaders[i][x] = (unsigned short)leader(closure, job, x);
         m->classes = closure_classes(closure);
         m->first = m->follows && q->s != q->t ? first[q->s * job->tags + q->t] : 0;
     }
@@ -369,12 +373,26 @@ static void field_add(struct bytes *out, int kind, const int *numbers, int count
         number_add(out, numbers[i]);
 }
 
+/* Document 02, No. 7: the leader of every tag in order, or no body where the equality follows. */
+static void why_add(struct bytes *out, const struct job *job, const struct history *history, int question)
+{
+    int numbers[MOST_TAGS];
+    for (int x = 0; x < job->tags; x++)
+        numbers[x] = history->leaders[question][x];
+    if (history->moment[question].follows)
+        field_add(out, KIND_EQUALS, NULL, 0);
+    else
+        field_add(out, KIND_APART, numbers, job->tags);
+}
+
 void report_write(const struct job *job, const struct history *history, uint64_t order, struct bytes *out)
 {
     int numbers[MOST_RECORDS];
     for (int i = 0; i < job->questions; i++) {
         const struct moment *m = &history->moment[i];
-        if (!job->question[i].explain)
+        if (job->question[i].why)
+            why_add(out, job, history, i);
+        else if (!job->question[i].explain)
             field_add(out, KIND_LEADERS, (int[]){m->leader_s, m->leader_t}, 2);
         else if (m->follows)
             field_add(out, KIND_REASON, numbers, reason_find(job, history, i, order, numbers));
@@ -402,6 +420,13 @@ static size_t right_field(const struct job *job, const struct history *history, 
         return right ? whole : 0;
     }
     const struct moment *m = &history->moment[question];
+    if (job->question[question].why) {
+        struct bytes right = {0};
+        why_add(&right, job, history, question);
+        int same = right.length == whole && memcmp(right.at, field, whole) == 0;
+        free(right.at);
+        return same ? whole : 0;
+    }
     if (!job->question[question].explain) {
         int right = kind == KIND_LEADERS && count == 2 && numbers[0] == m->leader_s && numbers[1] == m->leader_t;
         return right ? whole : 0;
@@ -433,6 +458,13 @@ static void line_write(const struct job *job, const struct history *history, int
     int numbers[MOST_RECORDS];
     const struct question *q = &job->question[i];
     const struct moment *m = &history->moment[i];
+    if (q->why) {
+        text_add(out, "%c %d %d", m->follows ? 'Y' : 'W', q->s, q->t);
+        for (int x = 0; !m->follows && x < job->tags; x++)
+            text_add(out, " %d", history->leaders[i][x]);
+        text_add(out, "\n");
+        return;
+    }
     if (!q->explain) {
         if (m->follows)
             text_add(out, "S %d %d %d\n", q->s, q->t, m->leader_s);

@@ -14,6 +14,7 @@ static int body_length(int kind)
     case KIND_EQUAL:
     case KIND_ASK:
     case KIND_EXPLAIN:
+    case KIND_WHY:
         return 4;
     case KIND_APPLY:
         return 6;
@@ -37,6 +38,7 @@ static int too_many(const struct job *job, int kind)
         return job->records == MOST_RECORDS;
     case KIND_ASK:
     case KIND_EXPLAIN:
+    case KIND_WHY:
         return job->questions == MOST_QUESTIONS;
     default:
         return 0;
@@ -102,12 +104,13 @@ static void take_question(struct job *job, int kind, const unsigned char *body)
 {
     struct question *q = &job->question[job->questions++];
     q->explain = kind == KIND_EXPLAIN;
+    q->why = kind == KIND_WHY;
     q->s = two_bytes(body);
     q->t = two_bytes(body + 2);
     q->before = job->records;
     long bound = 2L * (job->tags - 1);
     long most = job->records < bound ? job->records : bound;
-    job->needed += q->explain ? 3 + 2 * most : 7;
+    job->needed += q->why ? 3 + 2L * job->tags : q->explain ? 3 + 2 * most : 7;
 }
 
 void job_read(struct job *job, const unsigned char *bytes, size_t length)
@@ -140,7 +143,7 @@ void job_read(struct job *job, const unsigned char *bytes, size_t length)
             job->units = stated == 4 ? two_bytes(body + 2) : job->tags;
         } else if (kind == KIND_EQUAL || kind == KIND_APPLY)
             take_record(job, kind, body);
-        else if (kind == KIND_ASK || kind == KIND_EXPLAIN)
+        else if (kind == KIND_ASK || kind == KIND_EXPLAIN || kind == KIND_WHY)
             take_question(job, kind, body);
         else if (at < length) {
             job->number = 8;

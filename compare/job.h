@@ -1,4 +1,4 @@
-/* A job read by document 01, sections "The job and the report" and "What is lent, and each refusal", and by document 02, No. 2 and 3.
+/* A job read by document 01, sections "The job and the report" and "What is lent, and each refusal", and by document 02, No. 2, 3 and 7.
    Written from those documents alone; rests on nothing else here. */
 #ifndef JOB_H
 #define JOB_H
@@ -21,10 +21,13 @@ enum {
     KIND_APPLY = 0x02,
     KIND_ASK = 0x03,
     KIND_EXPLAIN = 0x04,
+    KIND_WHY = 0x07,
     KIND_END = 0x7F,
     KIND_LEADERS = 0x83,
     KIND_REASON = 0x84,
     KIND_NOT = 0x85,
+    KIND_APART = 0x88, /* the leader of every tag */
+    KIND_EQUALS = 0x89,
     KIND_TOTALS = 0x8F
 };
 
@@ -38,6 +41,7 @@ struct question {
     int explain;
     int s, t;
     int before; /* how many records stand before it */
+    int why;    /* document 02, No. 7 */
 };
 
 /* Either a refusal with its place, or number 0 and what the job says. */

@@ -1,5 +1,5 @@
 // The questions of an accepted job, answered one after the other: each by the joins that were made before it, as a field of the
-// report. Document 01, "The job and the report". Rests on job_field, all_close, report_write, moment, answer_ask and answer_explain.
+// report. Document 01, "The job and the report". Rests on job_field, all_close, report_write, moment, answer_ask, answer_explain and answer_why.
 ghost use mathlib.Core.Path.{_≡_};
 ghost use Prim.Native.Nat.{ℕ, _+_, _*_, _-_, _≤_, _<_, min};
 ghost use lib.ListN.{length};
@@ -21,6 +21,7 @@ use job_field::units;
 use job_field::wide;
 use moment::Closed;
 use report_write::write_totals;
+use answer_why::answer_why;
 
 // How far the answers have come: the place in the job, the place in the room, and the records passed.
 pub struct Spot {
@@ -44,6 +45,7 @@ fn answer_question(
     match q {
         Query::Ask(s, t) => answer_ask(room, work, c, before, out, s, t),
         Query::Explain(s, t) => answer_explain(room, work, c, before, out, s, t),
+        Query::Why(s, t) => answer_why(room, work, c, before, out, s, t),
     }
 }
 

@@ -71,6 +71,7 @@ pub enum Kind {
     Apply,
     Asked,
     Explained,
+    Doubted,
     Last,
     Unknown,
 }
@@ -85,6 +86,7 @@ pub enum Line {
 pub enum Query {
     Ask(Tag, Tag),
     Explain(Tag, Tag),
+    Why(Tag, Tag),
 }
 
 // What stands at a place of a job. A new kind is a new `Line` or `Query`: here the cases stay these five.
@@ -121,6 +123,7 @@ fn later_kind(byte: u8) -> Kind
         0x02 => Kind::Apply,
         0x03 => Kind::Asked,
         0x04 => Kind::Explained,
+        0x07 => Kind::Doubted,
         0x7F => Kind::Last,
         _ => Kind::Unknown,
     }
@@ -137,6 +140,7 @@ fn is_known(kind: Kind) -> bool
         Kind::Apply => true,
         Kind::Asked => true,
         Kind::Explained => true,
+        Kind::Doubted => true,
         Kind::Last => true,
         Kind::Unknown => false,
     }
@@ -153,6 +157,7 @@ fn body_length(kind: Kind) -> u16
         Kind::Apply => 6,
         Kind::Asked => 4,
         Kind::Explained => 4,
+        Kind::Doubted => 4,
         Kind::Last => 0,
         Kind::Unknown => 0,
     }
@@ -211,6 +216,7 @@ fn meant(kind: Kind, a: u16, b: u16, c: u16) -> Field
         Kind::Apply => Field::Noted(Line::Application(x, y, z)),
         Kind::Asked => Field::Posed(Query::Ask(x, y)),
         Kind::Explained => Field::Posed(Query::Explain(x, y)),
+        Kind::Doubted => Field::Posed(Query::Why(x, y)),
         Kind::Last => Field::End,
         Kind::Unknown => Field::Bad(Fault::Misplaced),
     }

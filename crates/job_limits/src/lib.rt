@@ -110,6 +110,7 @@ fn question_tags(q: Query) -> Tags
     match q {
         Query::Ask(s, t) => Tags::Two(s, t),
         Query::Explain(s, t) => Tags::Two(s, t),
+        Query::Why(s, t) => Tags::Two(s, t),
     }
 }
 

@@ -21,6 +21,7 @@ use job_field::wide;
 use judge_explain::explained;
 use meaning::Tag;
 use moment::Question;
+use answer_why::doubted;
 
 // What is judged of a report: it is sound, or the first byte of the first field at fault.
 pub enum Judgement {
@@ -110,6 +111,7 @@ fn tested(
     match q {
         Query::Ask(a, b) => led(report, place, work, posed(closed, before, a, b)),
         Query::Explain(a, b) => explained(report, place, work, posed(closed, before, a, b)),
+        Query::Why(a, b) => doubted(report, place, work, posed(closed, before, a, b)),
     }
 }
 

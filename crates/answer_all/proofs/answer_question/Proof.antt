@@ -18,6 +18,12 @@ enum-known-q-2 c = search needs
 answer-explain-requires : tie.Need-answer-explain-requires
 answer-explain-requires c κs = rw (ap questionSaid (c .before .before .before .q2 .given .1)) at (c .before .before .before .before .before .before .before .pre)
 
+enum-known-q-3 : tie.Need-enum-known-q-3
+enum-known-q-3 c = search needs
+
+answer-why-requires : tie.Need-answer-why-requires
+answer-why-requires c κs = rw (ap questionSaid (c .before .before .before .q3 .given .1)) at (c .before .before .before .before .before .before .before .pre)
+
 same-length : tie.Need-same-length
 same-length c = search needs
 
@@ -36,6 +42,15 @@ same-length-4 c = search needs
 returns-2 : tie.Need-returns-2
 returns-2 c = rw (ap questionSaid (c .before .before .before .before .before .before .before .before .q2 .given .1)) (c .before .before .before .before .answer-explain .ensures)
 
+same-length-5 : tie.Need-same-length-5
+same-length-5 c = search needs
+
+same-length-6 : tie.Need-same-length-6
+same-length-6 c = search needs
+
+returns-3 : tie.Need-returns-3
+returns-3 c = rw (ap questionSaid (c .before .before .before .before .before .before .before .before .q3 .given .1)) (c .before .before .before .before .answer-why .ensures)
+
 pub answer-question-spec : {M : Type 1} → statement M
 answer-question-spec =
     tie.close
@@ -44,9 +59,14 @@ answer-question-spec =
     answer-ask-requires
     enum-known-q-2
     answer-explain-requires
+    enum-known-q-3
+    answer-why-requires
     same-length
     same-length-2
     returns
     same-length-3
     same-length-4
-    returns-2)
+    returns-2
+    same-length-5
+    same-length-6
+    returns-3)

@@ -22,9 +22,14 @@ returns-5 : tie.Need-returns-5
 returns-5 c = sym (ap laterKind (c .match .keys5))
 
 returns-6 : tie.Need-returns-6
-returns-6 c =
+returns-6 c = sym (ap laterKind (c .match .keys6))
+
+returns-7 : tie.Need-returns-7
+returns-7 c =
     let r = c .match .rest in
-    simp (ne-eqb _ _ (r .0 .0 .0 .0 .1), ne-eqb _ _ (r .0 .0 .0 .1), ne-eqb _ _ (r .0 .0 .1), ne-eqb _ _ (r .0 .1), ne-eqb _ _ (r .1))
+    simp (ne-eqb _ _ (r .0 .0 .0 .0 .0 .1), ne-eqb _ _ (r .0 .0 .0 .0 .1), ne-eqb _ _ (r .0 .0 .0 .1), ne-eqb _ _ (r .0 .0 .1), ne-eqb _ _ (r .0 .1), ne-eqb _ _ (r .1))
 
 pub later-kind-spec : {M : Type 1} → statement M
-later-kind-spec = tie.close (tie.spec returns returns-2 returns-3 returns-4 returns-5 returns-6)
+later-kind-spec =
+    tie.close
+    (tie.spec returns returns-2 returns-3 returns-4 returns-5 returns-6 returns-7)

@@ -37,6 +37,9 @@ enum-told-7 c = search needs
 enum-told-8 : tie.Need-enum-told-8
 enum-told-8 c = search needs
 
+enum-told-9 : tie.Need-enum-told-9
+enum-told-9 c = search needs
+
 returns : tie.Need-returns
 returns c = rw (c .enum-told .given .1)
 
@@ -56,10 +59,13 @@ returns-6 : tie.Need-returns-6
 returns-6 c = rw (c .enum-told6 .given .1, c .before .before .before .before .of .ensures, c .before .before .before .of2 .ensures)
 
 returns-7 : tie.Need-returns-7
-returns-7 c = search needs
+returns-7 c = rw (c .enum-told7 .given .1, c .before .before .before .before .of .ensures, c .before .before .before .of2 .ensures)
 
 returns-8 : tie.Need-returns-8
-returns-8 c = rw (c .enum-told8 .given .1)
+returns-8 c = search needs
+
+returns-9 : tie.Need-returns-9
+returns-9 c = rw (c .enum-told9 .given .1)
 
 pub meant-spec : {M : Type 1} → statement M
 meant-spec =
@@ -76,6 +82,7 @@ meant-spec =
     enum-told-6
     enum-told-7
     enum-told-8
+    enum-told-9
     returns
     returns-2
     returns-3
@@ -83,4 +90,5 @@ meant-spec =
     returns-5
     returns-6
     returns-7
-    returns-8)
+    returns-8
+    returns-9)

@@ -2,7 +2,7 @@
 -- Assumes nothing.
 use Rattle.job_field.specs.Answer.{questionSaid}
 use Rattle.table.proofs.Frame.{within-refl}
-use Rattle.report.proofs.Known.{ask-known, ask-tabled, explain-known, explain-tabled}
+use Rattle.report.proofs.Known.{ask-known, ask-tabled, explain-known, explain-tabled, why-known, why-tabled}
 use Rattle.answer_ask.proofs.Right.{right-same}
 use borrow.Author.Needs.{needs}
 use Rattle.judge.proofs.tested.Statement.{statement}
@@ -28,6 +28,15 @@ posed-requires-2 c κs = search needs
 explained-requires : tie.Need-explained-requires
 explained-requires c κs = let t = rw (ap questionSaid (c .before .before .before .q2 .given .1)) at (c .before .before .before .before .before .before .before .pre) in (rw (c .posed2 .ensures) (record { past = t .past; units = t .units; early = t .early; from = t .tags .0; to = t .tags .1 .0 }), t .within)
 
+enum-known-q-3 : tie.Need-enum-known-q-3
+enum-known-q-3 c = search needs
+
+posed-requires-3 : tie.Need-posed-requires-3
+posed-requires-3 c κs = search needs
+
+doubted-requires : tie.Need-doubted-requires
+doubted-requires c κs = let t = rw (ap questionSaid (c .before .before .before .q3 .given .1)) at (c .before .before .before .before .before .before .before .pre) in (rw (c .posed3 .ensures) (record { past = t .past; units = t .units; early = t .early; from = t .tags .0; to = t .tags .1 .0 }), t .within)
+
 same-length : tie.Need-same-length
 same-length c = search needs
 
@@ -40,6 +49,12 @@ same-length-2 c = search needs
 returns-2 : tie.Need-returns-2
 returns-2 c = rw (ap questionSaid (c .before .before .before .before .before .before .q2 .given .1)) (record { kept = c .before .before .explained .ensures .kept; right = λ M b K. right-same (explain-known K) (explain-tabled K) (rw (c .before .before .before .posed2 .ensures) at (c .before .before .explained .ensures .right)) })
 
+same-length-3 : tie.Need-same-length-3
+same-length-3 c = search needs
+
+returns-3 : tie.Need-returns-3
+returns-3 c = rw (ap questionSaid (c .before .before .before .before .before .before .q3 .given .1)) (record { kept = c .before .before .doubted .ensures .kept; right = λ M b K. right-same (why-known K) (why-tabled K) (rw (c .before .before .before .posed3 .ensures) at (c .before .before .doubted .ensures .right)) })
+
 pub tested-spec : {M : Type 1} → statement M
 tested-spec =
     tie.close
@@ -50,7 +65,12 @@ tested-spec =
     enum-known-q-2
     posed-requires-2
     explained-requires
+    enum-known-q-3
+    posed-requires-3
+    doubted-requires
     same-length
     returns
     same-length-2
-    returns-2)
+    returns-2
+    same-length-3
+    returns-3)

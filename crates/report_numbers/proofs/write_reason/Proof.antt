@@ -8,10 +8,10 @@ use Prim.Native.Nat.{ℕ, _+_, _-_, _≤_}
 use mathlib.Core.Path.{_≡_, refl, sym, ap, _∙_}
 use lib.ListN.{length}
 use denote.Ref.{now}
-use Rattle.table.specs.Map.{listIn}
+use Rattle.table.specs.Map.{listOf, listIn}
 use Rattle.report.specs.Report.{numbers, laid}
 use Rattle.report.proofs.Laid.{laid-none}
-use Rattle.report_numbers.proofs.Written.{list-laid, reason-laid}
+use Rattle.report_numbers.proofs.Written.{list-laid, field-laid}
 
 abbrev Inv-loop : tie.InvT-loop
 Inv-loop room₀ at work count i₀ room i = (i ≤ count) × (length room ≡ length room₀) × (room ≡ laid (at + 3) (numbers (listIn i work)) room₀)
@@ -50,7 +50,7 @@ loop-again c = let a = c .before .before .before .before .before .before .before
     let room = c .before .before .before .before .before .before .before .before .put-front .last .0 in
     let f : length room ≡ length (now (a .room)) = c .before .before .before .before .before .before .before .before .put-front .kept .0 in
     let i : l .i ≤ a .count = l .inv .0 in
-    (omega arith, c .before .before .put-listed .kept .0 ∙ l .inv .1, list-laid (a .at + 3) (l .i) (now (a .work)) room (l .room) (c .before .before .put-listed .last .0) (omega (arith, c .before .before .before .before .before .before .before .before .before .before .before .before .pre)) (l .inv .2) (c .before .before .put-listed .ensures))
+    (omega arith, c .before .before .put-listed .kept .0 ∙ l .inv .1, list-laid (listOf (now (a .work))) (a .at + 3) (l .i) room (l .room) (c .before .before .put-listed .last .0) (omega (arith, c .before .before .before .before .before .before .before .before .before .before .before .before .pre)) (l .inv .2) (c .before .before .put-listed .ensures))
 
 same-length : tie.Need-same-length Inv-loop μ-loop
 same-length c = c .before .loop .inv .1 ∙ c .before .before .before .before .put-front .kept .0
@@ -60,7 +60,7 @@ returns c = let a = c .before .before .before .before .before .before .before .b
     let l = c .before .loop in
     let room = c .before .before .before .before .put-front .last .0 in
     let e : l .i ≡ a .count = omega (arith, l .inv .0) in
-    reason-laid (a .at) (a .count) (now (a .work)) (now (a .room)) room (l .room) (omega (arith, c .before .before .before .before .before .before .before .before .pre)) (c .before .before .before .before .put-front .ensures) (l .inv .2 ∙ ap (λ (n : ℕ). laid (a .at + 3) (numbers (listIn n (now (a .work)))) room) e)
+    field-laid 132 (listOf (now (a .work))) (a .at) (a .count) (now (a .room)) room (l .room) (omega (arith, c .before .before .before .before .before .before .before .before .pre)) (c .before .before .before .before .put-front .ensures) (l .inv .2 ∙ ap (λ (n : ℕ). laid (a .at + 3) (numbers (listIn n (now (a .work)))) room) e)
 
 pub write-reason-spec : {M : Type 1} → statement M
 write-reason-spec =

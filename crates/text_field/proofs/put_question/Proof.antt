@@ -1,7 +1,7 @@
 -- `text_field::put_question` meets its contract, question by question.
 -- Assumes nothing.
 use Rattle.text_line.proofs.Puts.{put-as}
-use Rattle.text_field.proofs.Parts.{ask-as, explain-as}
+use Rattle.text_field.proofs.Parts.{ask-as, explain-as, why-as}
 use borrow.Author.Needs.{needs}
 use Rattle.text_field.proofs.put_question.Statement.{statement}
 use Rattle.text_field.proofs.put_question.Tie as tie
@@ -43,6 +43,18 @@ shown-requires-4 c κs = search needs
 put-explain-requires : tie.Need-put-explain-requires
 put-explain-requires c κs = search needs
 
+enum-known-q-3 : tie.Need-enum-known-q-3
+enum-known-q-3 c = search needs
+
+shown-requires-5 : tie.Need-shown-requires-5
+shown-requires-5 c κs = search needs
+
+shown-requires-6 : tie.Need-shown-requires-6
+shown-requires-6 c κs = search needs
+
+put-why-requires : tie.Need-put-why-requires
+put-why-requires c κs = search needs
+
 same-length : tie.Need-same-length
 same-length c = search needs
 
@@ -54,6 +66,12 @@ same-length-2 c = search needs
 
 returns-2 : tie.Need-returns-2
 returns-2 c = rw (c .before .before .before .before .before .before .before .q2 .given .1) (put-as (explain-as _ _ (c .before .before .before .before .before .shown3 .ensures) (c .before .before .before .before .shown4 .ensures)) (c .before .before .put-explain .ensures))
+
+same-length-3 : tie.Need-same-length-3
+same-length-3 c = search needs
+
+returns-3 : tie.Need-returns-3
+returns-3 c = rw (c .before .before .before .before .before .before .before .q3 .given .1) (put-as (why-as _ _ (c .before .before .before .before .before .shown5 .ensures) (c .before .before .before .before .shown6 .ensures)) (c .before .before .put-why .ensures))
 
 pub put-question-spec : {M : Type 1} → statement M
 put-question-spec =
@@ -71,7 +89,13 @@ put-question-spec =
     shown-requires-3
     shown-requires-4
     put-explain-requires
+    enum-known-q-3
+    shown-requires-5
+    shown-requires-6
+    put-why-requires
     same-length
     returns
     same-length-2
-    returns-2)
+    returns-2
+    same-length-3
+    returns-3)
