@@ -152,7 +152,7 @@ no-more : (l : List ℕ) → length l ≡ 0 → l ≡ []
 no-more [] e = refl
 no-more (x ∷ l) e = absurd (omega arith)
 
-module _ {M : Matter} {c i : ℕ} (h : Classes (M .head .size) (UpTo (M .records) (length (M .records))) c) (k : Idles (M .records) i) (report : List ℕ) (at : ℕ) where
+module _ (M : Matter) {c i : ℕ} (h : Classes (M .head .size) (UpTo (M .records) (length (M .records))) c) (k : Idles (M .records) i) (report : List ℕ) (at : ℕ) where
   abbrev f : List ℕ
   f = field 143 (numbers (c ∷ i ∷ []))
 
@@ -178,7 +178,7 @@ pub going-end : {job report w : List ℕ} {N len joins idle : ℕ} {s : Stand} �
 going-end {job} {report} {w} {N} {len} {joins} {idle} {s} J g e a h =
     let o = over g [] (stands-end job (headIn job .size) (s .at) (g .left) (g .stands) e) in
     let c : Classes (headIn job .size) (UpTo (recordsOf (itemsIn job)) (length (recordsOf (itemsIn job)))) (N - joins) = rw (J .size) (rw (J .count) at (J .classes)) in
-    done (whole o (verdict-end {M = matterIn job} c (J .idles) report (s .place) h))
+    done (whole o (verdict-end (matterIn job) c (J .idles) report (s .place) h))
   where
     whole : {b : Judgement} → Over job report s (g .moment) [] → Verdict (matterIn job) (g .moment) [] (s .place) (drop (s .place) report) b → Verdict (matterIn job) start (itemsIn job) 0 report b
     whole o (sound t) = sound (o .sound t)

@@ -29,7 +29,7 @@ behind-requires c κs = search needs
 loop-holds : tie.Need-loop-holds Inv-loop μ-loop
 loop-holds c =
     let start = c .before .before .before .before .before .before in
-    record { kept = within-refl (now (start .args .work)); judgeable = start .pre; top = head-read (start .pre) _ (c .before .before .wide .ensures ∙ c .before .before .before .units .ensures); going = going-start (now (start .args .report)) (start .pre) _ (c .behind .ensures) }
+    record { kept = within-refl (now (start .args .work)); judgeable = start .pre; top = head-read (start .pre) _ (c .before .wide .ensures ∙ c .before .before .units .ensures); going = going-start (now (start .args .report)) (start .pre) _ (c .behind .ensures) }
 
 advance-requires : tie.Need-advance-requires Inv-loop μ-loop
 advance-requires c κs = let at = c .before .loop in (at .inv .judgeable, at .inv .going, at .inv .top)
