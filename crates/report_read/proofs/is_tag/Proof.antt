@@ -16,11 +16,11 @@ number-requires c κs = search needs
 
 returns : tie.Need-returns
 returns c =
-    let a = @args in
-    let e = @number .ensures in
-    is-so (@number-in .result) _
-    (λ q. rw (q ∙ e) at (@number-in .ensures))
-    (λ h. number-held (now (a .report)) (a .at) (@number-in .result) (a .l .0) (@number-in .ensures) h ∙ sym e)
+    let a = c .before .before .before .args in
+    let e = c .number .ensures in
+    is-so (c .before .number-in .result) _
+    (λ q. rw (q ∙ e) at (c .before .number-in .ensures))
+    (λ h. number-held (now (a .report)) (a .at) (c .before .number-in .result) (a .l .0) (c .before .number-in .ensures) h ∙ sym e)
 
 pub is-tag-spec : {M : Type 1} → statement M
 is-tag-spec = tie.close (tie.spec number-in-requires number-requires returns)

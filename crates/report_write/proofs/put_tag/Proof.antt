@@ -14,7 +14,7 @@ same-length : tie.Need-same-length
 same-length c = search needs
 
 returns : tie.Need-returns
-returns c = rw (@number .ensures) at (@put-number .ensures)
+returns c = rw (c .before .before .before .number .ensures) at (c .before .before .put-number .ensures)
 
 pub put-tag-spec : {M : Type 1} → statement M
 put-tag-spec = tie.close (tie.spec number-requires put-number-requires same-length returns)
