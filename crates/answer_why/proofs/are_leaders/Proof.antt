@@ -24,7 +24,7 @@ loop-holds : tie.Need-loop-holds Inv-loop μ-loop
 loop-holds c = let a = c .before .before .args in (omega arith, list-held-none (now (a .report)) (a .at) (leaderIn (now (a .work))))
 
 is-leader-requires : tie.Need-is-leader-requires Inv-loop μ-loop
-is-leader-requires c κs = search needs
+is-leader-requires c κs = (c .before .before .before .before .pre .0 .long, omega (arith, c .before .before .before .before .pre .0 .few, c .loop-test), c .before .before .before .before .pre .0 .low (c .before .loop .i) (c .loop-test .taken), omega (arith, c .before .before .before .before .pre .1, c .loop-test))
 
 add-i : tie.Need-add-i Inv-loop μ-loop
 add-i c = search needs

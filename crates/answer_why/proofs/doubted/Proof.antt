@@ -22,68 +22,106 @@ use Rattle.answer_why.proofs.doubted.Statement.{statement}
 use Rattle.answer_why.proofs.doubted.Tie as tie
 
 lead-requires : tie.Need-lead-requires
-lead-requires c κs = let f = @pre .0 in record { forest = past-forest (f .past); few = f .past .loaded .few; units = f .units; low = omega (arith, f .past .low, f .past .loaded .few) }
+lead-requires c κs = let f = c .before .before .before .pre .0 in record { forest = past-forest (f .past); few = f .past .loaded .few; units = f .units; low = omega (arith, f .past .low, f .past .loaded .few) }
 
 leader-of-requires : tie.Need-leader-of-requires
 leader-of-requires c κs =
-    let f = @pre .0 in
-    let d = @lead .ensures in
-    (omega (arith, d .frame .size, f .past .loaded .long), omega (arith, f .past .loaded .few, f .from), omega (arith, f .past .loaded .few, d .low (@args .q .s .0) (f .from)))
+    let f = c .before .before .before .before .before .before .before .pre .0 in
+    let d = c .before .before .before .lead .ensures in
+    (omega (arith, d .frame .size, f .past .loaded .long), omega (arith, f .past .loaded .few, f .from), omega (arith, f .past .loaded .few, d .low (c .before .before .before .before .before .before .before .args .q .s .0) (f .from)))
 
 leader-of-requires-2 : tie.Need-leader-of-requires-2
 leader-of-requires-2 c κs =
-    let f = @pre .0 in
-    let d = @lead .ensures in
-    (omega (arith, d .frame .size, f .past .loaded .long), omega (arith, f .past .loaded .few, f .to), omega (arith, f .past .loaded .few, d .low (@args .q .t .0) (f .to)))
+    let f = c .before .before .before .before .before .before .before .before .before .pre .0 in
+    let d = c .before .before .before .before .before .lead .ensures in
+    (omega (arith, d .frame .size, f .past .loaded .long), omega (arith, f .past .loaded .few, f .to), omega (arith, f .past .loaded .few, d .low (c .before .before .before .before .before .before .before .before .before .args .q .t .0) (f .to)))
+
+is-requires : tie.Need-is-requires
+is-requires c κs = search needs
 
 is-bare-requires : tie.Need-is-bare-requires
-is-bare-requires c κs = @pre .1
+is-bare-requires c κs = c .before .before .before .before .before .before .before .before .before .before .before .before .pre .1
 
-add-t18 : tie.Need-add-t18
-add-t18 c = omega (arith, field-room (now (@args .report)) (@args .at) 137 [] (@pre .1) (@is-bare .ensures .0 (@if2 .taken)))
+add-t16 : tie.Need-add-t16
+add-t16 c = omega (arith, field-room (now (c .before .before .before .before .before .before .before .before .before .before .before .before .before .before .args .report)) (c .before .before .before .before .before .before .before .before .before .before .before .before .before .before .args .at) 137 [] (c .before .before .before .before .before .before .before .before .before .before .before .before .before .before .pre .1) (c .before .is-bare .ensures .0 (c .if2 .taken)))
 
 same-length : tie.Need-same-length
-same-length c = @lead .ensures .frame .size
+same-length c = c .before .before .before .before .before .before .before .before .before .before .lead .ensures .frame .size
 
 returns : tie.Need-returns
 returns c =
-    let f = @pre .0 in
-    let a = @args in
-    let d = @lead .ensures in
-    let g = same-follows d (f .past) (f .early) (f .from) (f .to) (@leader-of .ensures) (@leader-of2 .ensures) (eqb-true _ _ (sym (@is .ensures) ∙ @if1 .taken)) in
-    record { kept = within-wider scratch (omega arith) (omega arith) (d .frame); right = joined-right (now (a .report)) (a .at) g (@is-bare .ensures .0 (@if2 .taken)) }
+    let f = c .before .before .before .before .before .before .before .before .before .before .before .before .before .before .pre .0 in
+    let a = c .before .before .before .before .before .before .before .before .before .before .before .before .before .before .args in
+    let d = c .before .before .before .before .before .before .before .before .before .before .lead .ensures in
+    let g = same-follows d (f .past) (f .early) (f .from) (f .to) (c .before .before .before .before .before .before .leader-of .ensures) (c .before .before .before .before .leader-of2 .ensures) (eqb-true _ _ (sym (c .before .before .before .is .ensures) ∙ c .before .before .if1 .taken)) in
+    record { kept = within-wider scratch (omega arith) (omega arith) (d .frame); right = joined-right (now (a .report)) (a .at) g (c .before .is-bare .ensures .0 (c .if2 .taken)) }
 
 same-length-2 : tie.Need-same-length-2
-same-length-2 c = @lead .ensures .frame .size
+same-length-2 c = c .before .before .before .before .before .before .before .before .before .before .lead .ensures .frame .size
 
 returns-2 : tie.Need-returns-2
 returns-2 c =
-    let f = @pre .0 in
-    let a = @args in
-    let d = @lead .ensures in
-    let g = same-follows d (f .past) (f .early) (f .from) (f .to) (@leader-of .ensures) (@leader-of2 .ensures) (eqb-true _ _ (sym (@is .ensures) ∙ @if1 .taken)) in
-    record { kept = within-wider scratch (omega arith) (omega arith) (d .frame); right = joined-wrong (now (a .report)) (a .at) g (λ h. true-or-false (@is-bare .ensures .1 h) (@if2 .left)) }
+    let f = c .before .before .before .before .before .before .before .before .before .before .before .before .before .before .pre .0 in
+    let a = c .before .before .before .before .before .before .before .before .before .before .before .before .before .before .args in
+    let d = c .before .before .before .before .before .before .before .before .before .before .lead .ensures in
+    let g = same-follows d (f .past) (f .early) (f .from) (f .to) (c .before .before .before .before .before .before .leader-of .ensures) (c .before .before .before .before .leader-of2 .ensures) (eqb-true _ _ (sym (c .before .before .before .is .ensures) ∙ c .before .before .if1 .taken)) in
+    record { kept = within-wider scratch (omega arith) (omega arith) (d .frame); right = joined-wrong (now (a .report)) (a .at) g (λ h. true-or-false (c .before .is-bare .ensures .1 h) (c .if2 .left)) }
 
 is-parted-requires : tie.Need-is-parted-requires
 is-parted-requires c κs =
-    let f = @pre .0 in
-    (labelled-after (record { forest = past-forest (f .past); few = f .past .loaded .few; units = f .units; low = omega (arith, f .past .low, f .past .loaded .few) }) (@lead .ensures), @pre .1)
+    let f = c .before .before .before .before .before .before .before .before .before .before .before .before .before .pre .0 in
+    (labelled-after (record { forest = past-forest (f .past); few = f .past .loaded .few; units = f .units; low = omega (arith, f .past .low, f .past .loaded .few) }) (c .before .before .before .before .before .before .before .before .before .lead .ensures), c .before .before .before .before .before .before .before .before .before .before .before .before .before .pre .1)
+
+add-t21 : tie.Need-add-t21
+add-t21 c = omega (arith, field-room (now (c .before .before .before .before .before .before .before .before .before .before .before .before .before .before .before .args .report)) (c .before .before .before .before .before .before .before .before .before .before .before .before .before .before .before .args .at) 136 (numbers (gather (leaderIn (c .before .before .before .before .before .before .before .before .before .before .before .lead .last .0)) (c .before .before .before .before .before .before .before .before .before .before .before .before .before .before .before .args .q .size))) (c .before .before .before .before .before .before .before .before .before .before .before .before .before .before .before .pre .1) (c .before .is-parted .ensures .0 (c .if3 .taken)))
+
+mul-t22 : tie.Need-mul-t22
+mul-t22 c = omega (arith, c .before .before .before .before .before .before .before .before .before .before .before .before .before .before .before .before .pre .0 .past .loaded .few)
+
+add-t23 : tie.Need-add-t23
+add-t23 c = omega (arith, length-leaders (leaderIn (c .before .before .before .before .before .before .before .before .before .before .before .before .lead .last .0)) (c .before .before .before .before .before .before .before .before .before .before .before .before .before .before .before .before .args .q .size) 136, field-room (now (c .before .before .before .before .before .before .before .before .before .before .before .before .before .before .before .before .args .report)) (c .before .before .before .before .before .before .before .before .before .before .before .before .before .before .before .before .args .at) 136 (numbers (gather (leaderIn (c .before .before .before .before .before .before .before .before .before .before .before .before .lead .last .0)) (c .before .before .before .before .before .before .before .before .before .before .before .before .before .before .before .before .args .q .size))) (c .before .before .before .before .before .before .before .before .before .before .before .before .before .before .before .before .pre .1) (c .before .before .is-parted .ensures .0 (c .before .if3 .taken)))
+
+same-length-3 : tie.Need-same-length-3
+same-length-3 c = c .before .before .before .before .before .before .before .before .before .before .before .before .lead .ensures .frame .size
 
 returns-3 : tie.Need-returns-3
 returns-3 c =
-    let f = @pre .0 in
-    let a = @args in
-    let d = @lead .ensures in
-    let g = other-apart d (f .past) (f .early) (f .from) (f .to) (@leader-of .ensures) (@leader-of2 .ensures) (eqb-false _ _ (sym (@is .ensures) ∙ @if1 .left)) in
-    record { kept = within-wider scratch (omega arith) (omega arith) (d .frame); right = parted-right (now (a .report)) (a .at) g (led-all d (f .past) (f .early)) (@is-parted .ensures .0 (@if3 .taken)) (omega (arith, length-leaders (leaderIn (@lead .last .0)) (a .q .size) 136)) }
+    let f = c .before .before .before .before .before .before .before .before .before .before .before .before .before .before .before .before .pre .0 in
+    let a = c .before .before .before .before .before .before .before .before .before .before .before .before .before .before .before .before .args in
+    let d = c .before .before .before .before .before .before .before .before .before .before .before .before .lead .ensures in
+    let g = other-apart d (f .past) (f .early) (f .from) (f .to) (c .before .before .before .before .before .before .before .before .leader-of .ensures) (c .before .before .before .before .before .before .leader-of2 .ensures) (eqb-false _ _ (sym (c .before .before .before .before .before .is .ensures) ∙ c .before .before .before .before .if1 .left)) in
+    record { kept = within-wider scratch (omega arith) (omega arith) (d .frame); right = parted-right (now (a .report)) (a .at) g (led-all d (f .past) (f .early)) (c .before .before .is-parted .ensures .0 (c .before .if3 .taken)) (omega (arith, length-leaders (leaderIn (c .before .before .before .before .before .before .before .before .before .before .before .before .lead .last .0)) (a .q .size) 136)) }
+
+same-length-4 : tie.Need-same-length-4
+same-length-4 c = c .before .before .before .before .before .before .before .before .before .before .before .lead .ensures .frame .size
 
 returns-4 : tie.Need-returns-4
 returns-4 c =
-    let f = @pre .0 in
-    let a = @args in
-    let d = @lead .ensures in
-    let g = other-apart d (f .past) (f .early) (f .from) (f .to) (@leader-of .ensures) (@leader-of2 .ensures) (eqb-false _ _ (sym (@is .ensures) ∙ @if1 .left)) in
-    record { kept = within-wider scratch (omega arith) (omega arith) (d .frame); right = parted-wrong (now (a .report)) (a .at) g (led-all d (f .past) (f .early)) (λ h. true-or-false (@is-parted .ensures .1 h) (@if3 .left)) }
+    let f = c .before .before .before .before .before .before .before .before .before .before .before .before .before .before .before .pre .0 in
+    let a = c .before .before .before .before .before .before .before .before .before .before .before .before .before .before .before .args in
+    let d = c .before .before .before .before .before .before .before .before .before .before .before .lead .ensures in
+    let g = other-apart d (f .past) (f .early) (f .from) (f .to) (c .before .before .before .before .before .before .before .leader-of .ensures) (c .before .before .before .before .before .leader-of2 .ensures) (eqb-false _ _ (sym (c .before .before .before .before .is .ensures) ∙ c .before .before .before .if1 .left)) in
+    record { kept = within-wider scratch (omega arith) (omega arith) (d .frame); right = parted-wrong (now (a .report)) (a .at) g (led-all d (f .past) (f .early)) (λ h. true-or-false (c .before .is-parted .ensures .1 h) (c .if3 .left)) }
 
 pub doubted-spec : {M : Type 1} → statement M
-doubted-spec = tie.close (tie.spec lead-requires leader-of-requires leader-of-requires-2 is-bare-requires add-t18 same-length returns same-length-2 returns-2 is-parted-requires returns-3 returns-4)
+doubted-spec =
+    tie.close
+    (tie.spec
+    lead-requires
+    leader-of-requires
+    leader-of-requires-2
+    is-requires
+    is-bare-requires
+    add-t16
+    same-length
+    returns
+    same-length-2
+    returns-2
+    is-parted-requires
+    add-t21
+    mul-t22
+    add-t23
+    same-length-3
+    returns-3
+    same-length-4
+    returns-4)

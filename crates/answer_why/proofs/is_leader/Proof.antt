@@ -9,7 +9,7 @@ tag-at-requires : tie.Need-tag-at-requires
 tag-at-requires c κs = search needs
 
 leader-of-requires : tie.Need-leader-of-requires
-leader-of-requires c κs = rw (@tag-at .ensures) (@pre .0, @pre .1, @pre .2 .0)
+leader-of-requires c κs = rw (c .tag-at .ensures) (c .before .before .before .pre .0, c .before .before .before .pre .1, c .before .before .before .pre .2)
 
 mul-is-tag : tie.Need-mul-is-tag
 mul-is-tag c = search needs
@@ -21,7 +21,7 @@ is-tag-requires : tie.Need-is-tag-requires
 is-tag-requires c κs = search needs
 
 returns : tie.Need-returns
-returns c = rw (@leader-of .ensures, @tag-at .ensures) at (@is-tag .ensures)
+returns c = rw (c .before .leader-of .ensures, c .before .before .tag-at .ensures) at (c .is-tag .ensures)
 
 pub is-leader-spec : {M : Type 1} → statement M
 is-leader-spec = tie.close (tie.spec tag-at-requires leader-of-requires mul-is-tag add-is-tag is-tag-requires returns)

@@ -18,59 +18,59 @@ use Rattle.answer_why.proofs.is_parted.Statement.{statement}
 use Rattle.answer_why.proofs.is_parted.Tie as tie
 
 mul-all : tie.Need-mul-all
-mul-all c = omega (arith, @pre .0 .few)
+mul-all c = omega (arith, c .before .before .pre .0 .few)
 
 sub-if1 : tie.Need-sub-if1
 sub-if1 c = search needs
 
 add-if1 : tie.Need-add-if1
-add-if1 c = omega (arith, @pre .0 .few)
+add-if1 c = omega (arith, c .before .before .pre .0 .few)
 
 returns : tie.Need-returns
 returns c =
-    let a = @args in
+    let a = c .before .before .before .args in
     let f = leaderIn (now (a .work)) in
-    is-not (λ h. omega (arith, field-room (now (a .report)) (a .at) 136 (numbers (gather f (a .size))) (@pre .1) h, length-list f (a .size), @pre .1, @if1 .taken))
+    is-not (λ h. omega (arith, field-room (now (a .report)) (a .at) 136 (numbers (gather f (a .size))) (c .before .before .before .pre .1) h, length-list f (a .size), c .before .before .before .pre .1, c .if1 .taken))
 
 shared-slice-read-if2 : tie.Need-shared-slice-read-if2
-shared-slice-read-if2 c = omega (arith, @pre .1, @if1 .left)
+shared-slice-read-if2 c = omega (arith, c .before .before .before .before .pre .1, c .before .if1 .left)
 
 returns-2 : tie.Need-returns-2
 returns-2 c =
-    let a = @args in
-    is-not (λ h. @if2 .taken (front-kind (now (a .report)) (a .at) 136 (numbers (gather (leaderIn (now (a .work))) (a .size))) (omega (arith, @pre .1, @if1 .left)) h))
+    let a = c .before .before .before .before .before .args in
+    is-not (λ h. c .if2 .taken (front-kind (now (a .report)) (a .at) 136 (numbers (gather (leaderIn (now (a .work))) (a .size))) (omega (arith, c .before .before .before .before .before .pre .1, c .before .before .if1 .left)) h))
 
 add-number-in : tie.Need-add-number-in
 add-number-in c = search needs
 
 number-in-requires : tie.Need-number-in-requires
-number-in-requires c κs = omega (arith, @pre .1, @if1 .left)
+number-in-requires c κs = omega (arith, c .before .before .before .before .before .pre .1, c .before .before .if1 .left)
 
 cast-if3 : tie.Need-cast-if3
-cast-if3 c = omega (arith, @pre .0 .few)
+cast-if3 c = omega (arith, c .before .before .before .before .before .before .pre .0 .few)
 
 returns-3 : tie.Need-returns-3
 returns-3 c =
-    let a = @args in
+    let a = c .before .before .before .before .before .before .before .args in
     let f = leaderIn (now (a .work)) in
-    is-not (λ h. @if3 .taken (number-held (now (a .report)) (a .at + 1) (@number-in .result) (2 * a .size) (@number-in .ensures) (rw (length-list f (a .size)) at (front-size (now (a .report)) (a .at) 136 (numbers (gather f (a .size))) h))))
+    is-not (λ h. c .if3 .taken (number-held (now (a .report)) (a .at + 1) (c .before .number-in .result) (2 * a .size) (c .before .number-in .ensures) (rw (length-list f (a .size)) at (front-size (now (a .report)) (a .at) 136 (numbers (gather f (a .size))) h))))
 
 add-are-leaders : tie.Need-add-are-leaders
 add-are-leaders c = search needs
 
 are-leaders-requires : tie.Need-are-leaders-requires
-are-leaders-requires c κs = (@pre .0, omega (arith, @pre .1, @if1 .left))
+are-leaders-requires c κs = (c .before .before .before .before .before .before .before .pre .0, omega (arith, c .before .before .before .before .before .before .before .pre .1, c .before .before .before .before .if1 .left))
 
 returns-4 : tie.Need-returns-4
 returns-4 c =
-    let a = @args in
+    let a = c .before .before .before .before .before .before .before .before .args in
     let r = now (a .report) in
     let f = leaderIn (now (a .work)) in
     let B = numbers (gather f (a .size)) in
-    let size : Holds r (a .at + 1) (two (length B)) = rw (length-list f (a .size), ← @if3 .left) (@number-in .ensures) in
+    let size : Holds r (a .at + 1) (two (length B)) = rw (length-list f (a .size), ← c .before .if3 .left) (c .before .before .number-in .ensures) in
     (
-      λ t. subst (λ (k : ℕ). Holds r (a .at) (field k B)) (@if2 .left) (holds-field r (a .at) B (omega (arith, @pre .1, @if1 .left)) size (@are-leaders .ensures .0 t)),
-      λ h. @are-leaders .ensures .1 (field-body r (a .at) 136 B h),
+      λ t. subst (λ (k : ℕ). Holds r (a .at) (field k B)) (c .before .before .before .if2 .left) (holds-field r (a .at) B (omega (arith, c .before .before .before .before .before .before .before .before .pre .1, c .before .before .before .before .before .if1 .left)) size (c .are-leaders .ensures .0 t)),
+      λ h. c .are-leaders .ensures .1 (field-body r (a .at) 136 B h),
     )
 
 pub is-parted-spec : {M : Type 1} → statement M

@@ -8,7 +8,7 @@ tag-at-requires : tie.Need-tag-at-requires
 tag-at-requires c κs = search needs
 
 leader-of-requires : tie.Need-leader-of-requires
-leader-of-requires c κs = rw (@tag-at .ensures) (@pre .0, @pre .1, @pre .2 .0)
+leader-of-requires c κs = rw (c .tag-at .ensures) (c .before .before .before .pre .0, c .before .before .before .pre .1, c .before .before .before .pre .2)
 
 mul-put-tag : tie.Need-mul-put-tag
 mul-put-tag c = search needs
@@ -23,7 +23,7 @@ same-length : tie.Need-same-length
 same-length c = search needs
 
 returns : tie.Need-returns
-returns c = rw (@leader-of .ensures, @tag-at .ensures) at (@put-tag .ensures)
+returns c = rw (c .before .before .before .before .leader-of .ensures, c .before .before .before .before .before .tag-at .ensures) at (c .before .before .put-tag .ensures)
 
 pub put-leader-spec : {M : Type 1} → statement M
 put-leader-spec = tie.close (tie.spec tag-at-requires leader-of-requires mul-put-tag add-put-tag put-tag-requires same-length returns)

@@ -37,7 +37,9 @@ add-put-leader : tie.Need-add-put-leader Inv-loop μ-loop
 add-put-leader c = search needs
 
 put-leader-requires : tie.Need-put-leader-requires Inv-loop μ-loop
-put-leader-requires c κs = let f : length (c .before .before .loop .room) ≡ length (now (c .before .before .before .before .before .before .before .before .before .args .room)) = c .before .before .loop .inv .1 ∙ c .before .before .before .before .before .put-front .kept .0 in (omega (arith, c .before .before .before .before .before .before .before .before .before .pre), omega (arith, c .before .before .before .before .before .before .before .before .before .pre), omega (arith, c .before .before .before .before .before .before .before .before .before .pre))
+put-leader-requires c κs =
+    let f : length (c .before .before .loop .room) ≡ length (now (c .before .before .before .before .before .before .before .before .before .args .room)) = c .before .before .loop .inv .1 ∙ c .before .before .before .before .before .put-front .kept .0 in
+    (c .before .before .before .before .before .before .before .before .before .pre .0 .long, omega (arith, c .before .before .before .before .before .before .before .before .before .pre .0 .few, c .before .loop-test), c .before .before .before .before .before .before .before .before .before .pre .0 .low (c .before .before .loop .i) (c .before .loop-test .taken), omega (arith, c .before .before .before .before .before .before .before .before .before .pre .1, c .before .loop-test))
 
 add-i : tie.Need-add-i Inv-loop μ-loop
 add-i c = search needs
