@@ -10,7 +10,7 @@
 #include <stdlib.h>
 #include <string.h>
 
-enum { TAGS = 1000, RECORDS = 4000, BUCKETS = 761, EQUATION = 65535, LEADS = 1000, JOB = 43010, WAITS = 4002 };
+enum { TAGS = 1000, RECORDS = 4000, BUCKETS = 761, EQUATION = 65535, LEADS = 1000, JOB = 46510, WAITS = 4002 };
 
 static uint16_t left[RECORDS + 1], right[RECORDS + 1], result[RECORDS + 1];
 static uint16_t parent[TAGS], /* of a tag that leads its class: the largest tag of it */

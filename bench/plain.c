@@ -14,7 +14,7 @@
 #include <stdlib.h>
 #include <string.h>
 
-enum { TAGS = 1000, RECORDS = 4000, QUESTIONS = 1000, JOB = 43010 };
+enum { TAGS = 1000, RECORDS = 4000, QUESTIONS = 1000, JOB = 46510 };
 
 struct record {
     int apply, a, b, c;

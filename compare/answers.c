@@ -141,6 +141,20 @@ static void note_idle(struct history *history, int k, int idle, int joined_nothi
     history->joined_nothing += joined_nothing;
 }
 
+static void asked(struct moment *m, const struct question *q)
+{
+    m->pair = 0;
+    m->s = q->s;
+    m->t = q->t;
+}
+
+static void found(struct moment *m, const struct job *job, int pair)
+{
+    m->pair = pair;
+    m->s = job->pair[pair].a;
+    m->t = job->pair[pair].b;
+}
+
 static void history_literally(struct history *history, const struct job *job)
 {
     static struct relation after[LITERAL_RECORDS + 1]; /* after[k]: by the records 1 to k */
@@ -157,15 +171,19 @@ static void history_literally(struct history *history, const struct job *job)
     for (int i = 0; i < job->questions; i++) {
         const struct question *q = &job->question[i];
         struct moment *m = &history->moment[i];
-        m->follows = literal_same(&after[q->before], q->s, q->t);
-        m->leader_s = literal_leader(&after[q->before], job, q->s);
-        m->leader_t = literal_leader(&after[q->before], job, q->t);
+        asked(m, q);
+        for (int k = 1; q->broken && m->pair == 0 && k <= q->pairs; k++)
+            if (literal_same(&after[q->before], job->pair[k].a, job->pair[k].b))
+                found(m, job, k);
+        m->follows = q->broken ? m->pair > 0 : literal_same(&after[q->before], m->s, m->t);
+        m->leader_s = literal_leader(&after[q->before], job, m->s);
+        m->leader_t = literal_leader(&after[q->before], job, m->t);
         for (int x = 0; q->why && x < job->tags; x++)
             history->leaders[i][x] = (unsigned short)literal_leader(&after[q->before], job, x);
         m->classes = literal_classes(&after[q->before], job->tags);
         m->first = 0;
         if (m->follows)
-            while (!literal_same(&after[m->first], q->s, q->t))
+            while (!literal_same(&after[m->first], m->s, m->t))
                 m->first++;
     }
 }
@@ -189,13 +207,17 @@ static void history_by_use_lists(struct history *history, const struct job *job)
             break;
         const struct question *q = &job->question[i];
         struct moment *m = &history->moment[i];
-        m->follows = closure_same(closure, q->s, q->t);
-        m->leader_s = leader(closure, job, q->s);
-        m->leader_t = leader(closure, job, q->t);
+        asked(m, q);
+        for (int j = 1; q->broken && m->pair == 0 && j <= q->pairs; j++)
+            if (closure_same(closure, job->pair[j].a, job->pair[j].b))
+                found(m, job, j);
+        m->follows = q->broken ? m->pair > 0 : closure_same(closure, m->s, m->t);
+        m->leader_s = leader(closure, job, m->s);
+        m->leader_t = leader(closure, job, m->t);
         for (int x = 0; q->why && x < job->tags; x++)
             history->leaders[i][x] = (unsigned short)leader(closure, job, x);
+        m->first = m->follows && m->s != m->t ? first[m->s * job->tags + m->t] : 0;
         m->classes = closure_classes(closure);
-        m->first = m->follows && q->s != q->t ? first[q->s * job->tags + q->t] : 0;
     }
     history->classes = closure_classes(closure);
 }
@@ -285,12 +307,12 @@ int reason_fault(const struct job *job, const struct history *history, int quest
     for (int i = 0; i < count; i++)
         if (numbers[i] < 1 || numbers[i] > q->before || (i > 0 && numbers[i] <= numbers[i - 1]))
             return POINT_RISING;
-    if (!(history->way == LITERALLY ? entails_literally(job, q->s, q->t, numbers, count, -1)
-                                    : entails_by_use_lists(job, q->s, q->t, numbers, count)))
+    if (!(history->way == LITERALLY ? entails_literally(job, m->s, m->t, numbers, count, -1)
+                                    : entails_by_use_lists(job, m->s, m->t, numbers, count)))
         return POINT_ENTAILS;
-    if (q->s == q->t ? count != 0 : count == 0 || numbers[count - 1] != m->first)
+    if (m->s == m->t ? count != 0 : count == 0 || numbers[count - 1] != m->first)
         return POINT_LAST;
-    if (some_spare(job, history->way, q->s, q->t, numbers, count))
+    if (some_spare(job, history->way, m->s, m->t, numbers, count))
         return POINT_SPARE;
     if (count > 2 * (job->tags - m->classes))
         return POINT_BOUND;
@@ -348,16 +370,16 @@ static int by_number(const void *one, const void *other)
 
 int reason_find(const struct job *job, const struct history *history, int question, uint64_t order, int *numbers)
 {
-    const struct question *q = &job->question[question];
-    int count = history->moment[question].first;
-    if (q->s == q->t)
+    const struct moment *m = &history->moment[question];
+    int count = m->first;
+    if (m->s == m->t)
         return 0;
     try_order(numbers, count, order);
     if (history->way == LITERALLY)
-        count = find_literally(job, q->s, q->t, numbers, count);
+        count = find_literally(job, m->s, m->t, numbers, count);
     else {
         closure_start(of_list(), job->tags);
-        count = find_by_halves(job, q->s, q->t, numbers, count);
+        count = find_by_halves(job, m->s, m->t, numbers, count);
     }
     qsort(numbers, (size_t)count, sizeof *numbers, by_number);
     return count;
@@ -387,10 +409,15 @@ static void why_add(struct bytes *out, const struct job *job, const struct histo
 
 void report_write(const struct job *job, const struct history *history, uint64_t order, struct bytes *out)
 {
-    int numbers[MOST_RECORDS];
+    int numbers[MOST_RECORDS + 1];
     for (int i = 0; i < job->questions; i++) {
         const struct moment *m = &history->moment[i];
-        if (job->question[i].why)
+        if (job->question[i].broken && m->pair > 0) {
+            numbers[0] = m->pair;
+            field_add(out, KIND_BREACH, numbers, 1 + reason_find(job, history, i, order, numbers + 1));
+        } else if (job->question[i].broken)
+            field_add(out, KIND_WHOLE, NULL, 0);
+        else if (job->question[i].why)
             why_add(out, job, history, i);
         else if (!job->question[i].explain)
             field_add(out, KIND_LEADERS, (int[]){m->leader_s, m->leader_t}, 2);
@@ -420,6 +447,12 @@ static size_t right_field(const struct job *job, const struct history *history, 
         return right ? whole : 0;
     }
     const struct moment *m = &history->moment[question];
+    if (job->question[question].broken) {
+        int right = m->pair == 0 ? kind == KIND_WHOLE && count == 0
+                                 : kind == KIND_BREACH && count > 0 && numbers[0] == m->pair &&
+                                       reason_fault(job, history, question, numbers + 1, count - 1) == 0;
+        return right ? whole : 0;
+    }
     if (job->question[question].why) {
         struct bytes right = {0};
         why_add(&right, job, history, question);
@@ -458,6 +491,10 @@ static void line_write(const struct job *job, const struct history *history, int
     int numbers[MOST_RECORDS];
     const struct question *q = &job->question[i];
     const struct moment *m = &history->moment[i];
+    if (q->broken && m->pair == 0) {
+        text_add(out, "K\n");
+        return;
+    }
     if (q->why) {
         text_add(out, "%c %d %d", m->follows ? 'Y' : 'W', q->s, q->t);
         for (int x = 0; !m->follows && x < job->tags; x++)
@@ -465,7 +502,7 @@ static void line_write(const struct job *job, const struct history *history, int
         text_add(out, "\n");
         return;
     }
-    if (!q->explain) {
+    if (!q->broken && !q->explain) {
         if (m->follows)
             text_add(out, "S %d %d %d\n", q->s, q->t, m->leader_s);
         else
@@ -477,7 +514,10 @@ static void line_write(const struct job *job, const struct history *history, int
         return;
     }
     int count = reason_find(job, history, i, 0, numbers);
-    text_add(out, "E %d %d %d", q->s, q->t, count);
+    if (q->broken)
+        text_add(out, "C %d %d", m->pair, count);
+    else
+        text_add(out, "E %d %d %d", q->s, q->t, count);
     for (int j = 0; j < count; j++)
         text_add(out, " %d", numbers[j]);
     text_add(out, "\n");
@@ -511,7 +551,7 @@ static long take_number(const char **at, const char *end)
     return *at == from || (*at - from > 1 && *from == '0') ? -1 : value;
 }
 
-/* What is wrong with a line `E s t k n1 .. nk` (without its end), or NULL. */
+/* What is wrong with a line `E s t k n1 .. nk` or `C n k n1 .. nk` (without its end), or NULL. */
 static const char *reason_line_fault(const struct job *job, const struct history *history, int question, const char *at,
                                      const char *end)
 {
@@ -524,9 +564,10 @@ static const char *reason_line_fault(const struct job *job, const struct history
     const struct question *q = &job->question[question];
     int numbers[MOST_RECORDS];
     char front[64];
-    int length = snprintf(front, sizeof front, "E %d %d ", q->s, q->t);
+    int length = q->broken ? snprintf(front, sizeof front, "C %d ", history->moment[question].pair)
+                           : snprintf(front, sizeof front, "E %d %d ", q->s, q->t);
     if (end - at < length || memcmp(at, front, (size_t)length) != 0)
-        return "an E line with this question's tags is expected";
+        return q->broken ? "a C line with the earliest broken pair is expected" : "an E line with this question's tags is expected";
     at += length;
     long count = take_number(&at, end);
     if (count < 0 || count > MOST_RECORDS)
@@ -546,7 +587,7 @@ static const char *reason_line_fault(const struct job *job, const struct history
 
 static const char *line_fault(const struct job *job, const struct history *history, int i, const char *at, const char *end)
 {
-    if (i < job->questions && job->question[i].explain && history->moment[i].follows)
+    if (i < job->questions && (job->question[i].explain || job->question[i].broken) && history->moment[i].follows)
         return reason_line_fault(job, history, i, at, end - 1);
     struct bytes right = {0};
     if (i < job->questions)

@@ -1,5 +1,5 @@
-/* What the answers to a job must be (document 01, "Tags, records, following", "Reasons", and document 02, No. 6, on idle records),
-   the judge of reports and texts, and answers of this program's own. Rests on job.h and closure.h. */
+/* What the answers to a job must be (document 01, "Tags, records, following", "Reasons", and document 02, No. 1, on tags that must
+   differ, and No. 6, on idle records), the judge of reports and texts, and answers of this program's own. Rests on job.h and closure.h. */
 #ifndef ANSWERS_H
 #define ANSWERS_H
 
@@ -12,8 +12,10 @@ enum way { LITERALLY, BY_USE_LISTS };
 enum { SMALL_TAGS = 16, SMALL_RECORDS = 64 };
 
 /* What holds at a question. `first` is the first k such that the equality follows from records 1 to k; 0 if it does not
-   follow or if s and t are the same number. */
+   follow or if s and t are the same number. At a 06 `pair` is the number of the earliest broken pair, or 0, s and t are its tags,
+   and `follows` says that there is one. */
 struct moment {
+    int pair, s, t;
     int follows;
     int leader_s, leader_t;
     int first;

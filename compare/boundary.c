@@ -64,7 +64,7 @@ int main(int count, char **words) {
     expect(soiled_room(0) && zero_work(), "and leave the room");
     soil();
     expect(haltzurme_run(job, length, room, 69, work, HALTZURME_WORK - 1, &place, &size) == HALTZURME_NARROW && soiled_room(0) && soiled_work(0), "32,767 numbers give 2, and nothing changes");
-    expect(haltzurme_run(job, HALTZURME_LONGEST_JOB + 1, room, 69, work, HALTZURME_WORK, &place, &size) == HALTZURME_LONG && soiled_room(0) && soiled_work(0), "43,011 bytes give 1, and nothing changes");
+    expect(haltzurme_run(job, HALTZURME_LONGEST_JOB + 1, room, 69, work, HALTZURME_WORK, &place, &size) == HALTZURME_LONG && soiled_room(0) && soiled_work(0), "46,511 bytes give 1, and nothing changes");
     expect(haltzurme_run(job, 0, room, 69, work, HALTZURME_WORK, &place, &size) == HALTZURME_SHORT && place == 0 && soiled_room(0) && zero_work(), "an empty job is refused by 3 at 0");
     puts("boundary: ok");
     return 0;

@@ -44,6 +44,13 @@ static void with_field(struct maker *m, const char *what, int kind, const int *n
     give(m, what, (long)m->start, 1);
 }
 
+/* The same, unless the list is a reason for the earliest broken pair as well. */
+static void with_field_if_wrong(struct maker *m, int question, const char *what, const int *numbers, int count)
+{
+    if (reason_fault(m->job, m->history, question, numbers + 1, count - 1) != 0)
+        with_field(m, what, KIND_BREACH, numbers, count);
+}
+
 static void cuts_and_bytes(struct maker *m)
 {
     struct bytes *out = &m->out.report;
@@ -57,7 +64,8 @@ static void cuts_and_bytes(struct maker *m)
         out->length = 0;
         bytes_add(out, m->report->at, m->report->length);
         out->at[at] = (unsigned char)(out->at[at] + 1 + random_below(&m->state, 255));
-        give(m, "byte", (long)start, m->report->at[start] != KIND_REASON || at < start + 3);
+        int kind = m->report->at[start];
+        give(m, "byte", (long)start, kind == KIND_REASON ? at < start + 3 : kind != KIND_BREACH || at < start + 5);
     }
 }
 
@@ -197,6 +205,73 @@ static void with_reason(struct maker *m, int question)
     later_last(m, question, list);
 }
 
+/* No pair is broken. */
+static void unbroken(struct maker *m, const struct question *q)
+{
+    with_field(m, "86 with the first pair where none is broken", KIND_BREACH, (int[]){1}, 1);
+    with_field(m, "86 with the last pair and a record where none is broken", KIND_BREACH, (int[]){q->pairs, q->before}, 2);
+    with_field(m, "86 with no number where none is broken", KIND_BREACH, NULL, 0);
+    with_field(m, "87 with a number", KIND_WHOLE, (int[]){0}, 1);
+    with_field(m, "85 for 87", KIND_NOT, NULL, 0);
+}
+
+/* The earliest broken pair and a reason: another number, another list, none. */
+static void with_breach(struct maker *m, int question)
+{
+    const struct question *q = &m->job->question[question];
+    int right[MOST_RECORDS + 2] = {0}, list[MOST_RECORDS + 2];
+    int count = two_bytes(m->report->at + m->start + 1) / 2;
+    for (int i = 0; i < count; i++)
+        right[i] = two_bytes(m->report->at + m->start + 3 + 2 * i);
+    with_field(m, "87 where a pair is broken", KIND_WHOLE, NULL, 0);
+    with_field(m, "84 with the number and the list", KIND_REASON, right, count);
+    with_field(m, "86 with no number", KIND_BREACH, NULL, 0);
+    for (int step = -1; step <= 1; step += 2) {
+        memcpy(list, right, sizeof list);
+        list[0] += step;
+        with_field(m, step < 0 ? "the number counted from 0" : "the next pair with this one's list", KIND_BREACH, list, count);
+    }
+    for (int k = right[0] + 1; k <= q->pairs; k++) { /* a later pair that is broken too, with its own list */
+        static struct job other;
+        static struct history history;
+        other = *m->job;
+        other.question[0] = (struct question){1, other.pair[k].a, other.pair[k].b, q->before, 0, 0, 0};
+        other.questions = 1;
+        history_of(&history, &other, m->history->way);
+        if (!history.moment[0].follows)
+            continue;
+        list[0] = k;
+        int length = reason_find(&other, &history, 0, 0, list + 1);
+        with_field(m, "a later broken pair", KIND_BREACH, list, 1 + length);
+        if (length != count - 1 || memcmp(list + 1, right + 1, (size_t)length * sizeof *list) != 0) {
+            list[0] = right[0];
+            with_field_if_wrong(m, question, "the reason of another pair", list, 1 + length);
+        }
+        break;
+    }
+    if (count == 1) {
+        if (q->before > 0)
+            with_field(m, "a record for a tag and itself", KIND_BREACH, (int[]){right[0], 1}, 2);
+        return;
+    }
+    with_field(m, "the number alone", KIND_BREACH, right, 1);
+    memcpy(list, right, sizeof list);
+    int i = 1 + random_below(&m->state, count - 1);
+    memmove(list + i, list + i + 1, (size_t)(count - i - 1) * sizeof *list);
+    with_field(m, "a number of the reason missing", KIND_BREACH, list, count - 1);
+    memcpy(list, right, sizeof list);
+    memmove(list + i + 1, list + i, (size_t)(count - i) * sizeof *list);
+    with_field(m, "a number of the reason doubled", KIND_BREACH, list, count + 1);
+    memcpy(list, right, sizeof list);
+    list[count] = q->before + 1;
+    with_field(m, "a record that does not stand before the 06", KIND_BREACH, list, count + 1);
+    if (count - 1 < q->before) {
+        for (int k = 0; k < q->before; k++)
+            list[1 + k] = k + 1;
+        with_field(m, "every record before the 06", KIND_BREACH, list, 1 + q->before);
+    }
+}
+
 static void totals(struct maker *m)
 {
     int classes = m->history->classes, idle = m->history->idle;
@@ -223,7 +298,8 @@ static void exchanged(struct maker *m)
     bytes_add(out, m->report->at + next, length);
     bytes_add(out, m->report->at + m->start, m->length);
     bytes_add(out, m->report->at + next + length, m->report->length - next - length);
-    give(m, "two fields exchanged", (long)m->start, m->report->at[m->start] != KIND_REASON || m->report->at[next] != KIND_REASON);
+    int one = m->report->at[m->start], two = m->report->at[next];
+    give(m, "two fields exchanged", (long)m->start, one != two || (one != KIND_REASON && one != KIND_BREACH));
 }
 
 void each_damage(const struct job *job, const struct history *history, const struct bytes *report, uint64_t seed,
@@ -237,7 +313,11 @@ void each_damage(const struct job *job, const struct history *history, const str
         if (i == job->questions)
             totals(&m);
         else {
-            if (job->question[i].why)
+            if (job->question[i].broken && history->moment[i].pair > 0)
+                with_breach(&m, i);
+            else if (job->question[i].broken)
+                unbroken(&m, &job->question[i]);
+            else if (job->question[i].why)
                 whys(&m, i);
             else if (!job->question[i].explain)
                 leaders(&m, &job->question[i], &history->moment[i]);

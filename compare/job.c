@@ -1,4 +1,4 @@
-/* Reading a job front to back, one field at a time, in document 01's order of checks; document 02, No. 2, for the tags. Rests on job.h only. */
+/* Reading a job front to back, one field at a time, in document 01's order of checks; document 02, No. 1 for kinds 05 and 06, No. 2 for the tags. Rests on job.h only. */
 #include "job.h"
 
 int two_bytes(const unsigned char *at)
@@ -14,10 +14,12 @@ static int body_length(int kind)
     case KIND_EQUAL:
     case KIND_ASK:
     case KIND_EXPLAIN:
+    case KIND_DIFFER:
     case KIND_WHY:
         return 4;
     case KIND_APPLY:
         return 6;
+    case KIND_BROKEN:
     case KIND_END:
         return 0;
     default:
@@ -36,8 +38,11 @@ static int too_many(const struct job *job, int kind)
     case KIND_EQUAL:
     case KIND_APPLY:
         return job->records == MOST_RECORDS;
+    case KIND_DIFFER:
+        return job->pairs == MOST_PAIRS;
     case KIND_ASK:
     case KIND_EXPLAIN:
+    case KIND_BROKEN:
     case KIND_WHY:
         return job->questions == MOST_QUESTIONS;
     default:
@@ -100,17 +105,26 @@ static void take_record(struct job *job, int kind, const unsigned char *body)
     r->c = r->apply ? two_bytes(body + 4) : 0;
 }
 
+static void take_pair(struct job *job, const unsigned char *body)
+{
+    struct pair *pair = &job->pair[++job->pairs];
+    pair->a = two_bytes(body);
+    pair->b = two_bytes(body + 2);
+}
+
 static void take_question(struct job *job, int kind, const unsigned char *body)
 {
     struct question *q = &job->question[job->questions++];
     q->explain = kind == KIND_EXPLAIN;
+    q->broken = kind == KIND_BROKEN;
     q->why = kind == KIND_WHY;
-    q->s = two_bytes(body);
-    q->t = two_bytes(body + 2);
+    q->s = q->broken ? 0 : two_bytes(body);
+    q->t = q->broken ? 0 : two_bytes(body + 2);
     q->before = job->records;
+    q->pairs = job->pairs;
     long bound = 2L * (job->tags - 1);
     long most = job->records < bound ? job->records : bound;
-    job->needed += q->why ? 3 + 2L * job->tags : q->explain ? 3 + 2 * most : 7;
+    job->needed += q->broken ? 5 + 2 * most : q->why ? 3 + 2L * job->tags : q->explain ? 3 + 2 * most : 7;
 }
 
 void job_read(struct job *job, const unsigned char *bytes, size_t length)
@@ -120,6 +134,7 @@ void job_read(struct job *job, const unsigned char *bytes, size_t length)
     job->tags = 0;
     job->units = 0;
     job->records = 0;
+    job->pairs = 0;
     job->questions = 0;
     job->needed = 7;
     if (length > LONGEST_JOB) {
@@ -143,7 +158,9 @@ void job_read(struct job *job, const unsigned char *bytes, size_t length)
             job->units = stated == 4 ? two_bytes(body + 2) : job->tags;
         } else if (kind == KIND_EQUAL || kind == KIND_APPLY)
             take_record(job, kind, body);
-        else if (kind == KIND_ASK || kind == KIND_EXPLAIN || kind == KIND_WHY)
+        else if (kind == KIND_DIFFER)
+            take_pair(job, body);
+        else if (kind == KIND_ASK || kind == KIND_EXPLAIN || kind == KIND_BROKEN || kind == KIND_WHY)
             take_question(job, kind, body);
         else if (at < length) {
             job->number = 8;

@@ -1,4 +1,4 @@
-/* A job read by document 01, sections "The job and the report" and "What is lent, and each refusal", and by document 02, No. 2, 3 and 7.
+/* A job read by document 01, sections "The job and the report" and "What is lent, and each refusal", and by document 02, No. 1 to 3 and 7.
    Written from those documents alone; rests on nothing else here. */
 #ifndef JOB_H
 #define JOB_H
@@ -6,9 +6,10 @@
 #include <stddef.h>
 
 enum {
-    LONGEST_JOB = 43010,
+    LONGEST_JOB = 46510,
     MOST_TAGS = 1000,
     MOST_RECORDS = 4000,
+    MOST_PAIRS = 500, /* of kind 05 */
     MOST_QUESTIONS = 1000,
     RECORD_PLACES = 4000, /* named places of the record table */
     WORK_PLACES = 32768,  /* named places of the work table */
@@ -21,11 +22,15 @@ enum {
     KIND_APPLY = 0x02,
     KIND_ASK = 0x03,
     KIND_EXPLAIN = 0x04,
+    KIND_DIFFER = 0x05,
+    KIND_BROKEN = 0x06,
     KIND_WHY = 0x07,
     KIND_END = 0x7F,
     KIND_LEADERS = 0x83,
     KIND_REASON = 0x84,
     KIND_NOT = 0x85,
+    KIND_BREACH = 0x86,
+    KIND_WHOLE = 0x87,
     KIND_APART = 0x88, /* the leader of every tag */
     KIND_EQUALS = 0x89,
     KIND_TOTALS = 0x8F
@@ -37,10 +42,18 @@ struct record {
     int a, b, c;
 };
 
+/* Two tags that must differ. */
+struct pair {
+    int a, b;
+};
+
+/* An ask or an explain on s and t, or a 06, which has no tags. */
 struct question {
     int explain;
     int s, t;
     int before; /* how many records stand before it */
+    int broken; /* a 06 */
+    int pairs;  /* how many pairs that must differ stand before it */
     int why;    /* document 02, No. 7 */
 };
 
@@ -51,9 +64,11 @@ struct job {
     int tags;
     int units; /* tags from here up are units (document 02, No. 3); as many as `tags` where the header does not say */
     int records;
+    int pairs;
     int questions;
     long needed; /* the report room that is needed */
     struct record record[MOST_RECORDS + 1]; /* from 1 */
+    struct pair pair[MOST_PAIRS + 1]; /* from 1 */
     struct question question[MOST_QUESTIONS];
 };
 

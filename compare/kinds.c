@@ -56,6 +56,16 @@ static void explain(struct bytes *out, int s, int t)
     field(out, KIND_EXPLAIN, 2, s, t, 0);
 }
 
+static void differ(struct bytes *out, int a, int b)
+{
+    field(out, KIND_DIFFER, 2, a, b, 0);
+}
+
+static void broken(struct bytes *out)
+{
+    field(out, KIND_BROKEN, 0, 0, 0, 0);
+}
+
 static void why(struct bytes *out, int s, int t)
 {
     field(out, KIND_WHY, 2, s, t, 0);
@@ -175,9 +185,25 @@ static void spare_job(struct bytes *out)
     end(out);
 }
 
-static void three_jobs(struct bytes *out, int which)
+static void differing_job(struct bytes *out)
 {
-    if (which == 0)
+    tags(out, 4);
+    differ(out, 0, 3);
+    differ(out, 2, 2);
+    apply(out, 1, 1, 0);
+    broken(out);
+    equal(out, 0, 3);
+    broken(out);
+    end(out);
+}
+
+enum { JOBS = 4 };
+
+static void four_jobs(struct bytes *out, int which)
+{
+    if (which == 3)
+        differing_job(out);
+    else if (which == 0)
         inspectors_job(out);
     else if (which == 1)
         crossed_job(out);
@@ -223,11 +249,44 @@ static void make_small(struct bytes *out, int size, uint64_t seed, long index)
     end(out);
 }
 
+/* The same with pairs that must differ, and 06 among the questions. */
+static void make_differ(struct bytes *out, int size, uint64_t seed, long index)
+{
+    uint64_t state = state_of(seed ^ 0xD1FFu, index);
+    int n = 2 + random_below(&state, size - 1 > 0 ? size - 1 : 1);
+    int records = random_below(&state, 25), pairs = random_below(&state, 9), questions = 1 + random_below(&state, 9);
+    int applied = 20 * random_below(&state, 6), twice = 25 * random_below(&state, 5);
+    tags(out, n);
+    while (records + pairs + questions > 0) {
+        int next = random_below(&state, records + pairs + questions), s = random_below(&state, n), t = random_below(&state, n);
+        if (next < records) {
+            random_record(out, n, applied, twice, &state);
+            records--;
+        } else if (next < records + pairs) {
+            differ(out, s, s == t && random_below(&state, 4) > 0 ? (t + 1) % n : t);
+            pairs--;
+        } else {
+            int which = random_below(&state, 6);
+            if (which == 0)
+                ask(out, s, t);
+            else if (which == 1)
+                explain(out, s, t);
+            else
+                broken(out);
+            questions--;
+        }
+    }
+    end(out);
+}
+
 /* A small job with one fault of some kind in it. */
 static void make_faulty(struct bytes *out, int size, uint64_t seed, long index)
 {
     uint64_t state = state_of(seed ^ 0xFA017u, index);
-    make_small(out, size, seed, index);
+    if (index % 2)
+        make_differ(out, size, seed, index);
+    else
+        make_small(out, size, seed, index);
     int at = random_below(&state, (int)out->length);
     switch (random_below(&state, 6)) {
     case 0: /* cut */
@@ -257,7 +316,7 @@ static void make_faulty(struct bytes *out, int size, uint64_t seed, long index)
 /* Bytes at random, mostly of those that mean something. */
 static void make_garbage(struct bytes *out, int size, uint64_t seed, long index)
 {
-    static const unsigned char known[] = {0x10, 0, 2, 0, 4, 1, 2, 3, 4, 0, 4, 0, 6, 0x7F, 0, 0};
+    static const unsigned char known[] = {0x10, 0, 2, 0, 4, 1, 2, 3, 4, 5, 6, 0, 4, 0, 6, 0x7F, 0, 0};
     uint64_t state = state_of(seed, index);
     int length = random_below(&state, 60);
     if (random_below(&state, 2) == 0)
@@ -266,21 +325,21 @@ static void make_garbage(struct bytes *out, int size, uint64_t seed, long index)
         byte_add(out, random_below(&state, 4) == 0 ? random_below(&state, 256) : known[random_below(&state, (int)sizeof known)]);
 }
 
-static long three_lengths(void)
+static long all_lengths(void)
 {
     struct bytes all = {0};
-    for (int which = 0; which < 3; which++)
-        three_jobs(&all, which);
+    for (int which = 0; which < JOBS; which++)
+        four_jobs(&all, which);
     free(all.at);
     return (long)all.length;
 }
 
-/* Which of the three jobs holds place `place` when they stand one behind the other; the job is put in `out`. */
-static long one_of_three(struct bytes *out, long place)
+/* Which of the four jobs holds place `place` when they stand one behind the other; the job is put in `out`. */
+static long one_of_four(struct bytes *out, long place)
 {
     for (int which = 0;; which++) {
         out->length = 0;
-        three_jobs(out, which);
+        four_jobs(out, which);
         if (place < (long)out->length)
             return place;
         place -= (long)out->length;
@@ -290,28 +349,28 @@ static long one_of_three(struct bytes *out, long place)
 static long cut_cases(uint64_t seed)
 {
     (void)seed;
-    return three_lengths();
+    return all_lengths();
 }
 
 static void make_cut(struct bytes *out, int size, uint64_t seed, long index)
 {
     (void)size;
     (void)seed;
-    long place = one_of_three(out, index);
+    long place = one_of_four(out, index);
     out->length = (size_t)place;
 }
 
 static long byte_cases(uint64_t seed)
 {
     (void)seed;
-    return three_lengths() * 255;
+    return all_lengths() * 255;
 }
 
 static void make_byte(struct bytes *out, int size, uint64_t seed, long index)
 {
     (void)size;
     (void)seed;
-    long place = one_of_three(out, index / 255);
+    long place = one_of_four(out, index / 255);
     out->at[place] = (unsigned char)(out->at[place] + 1 + index % 255);
 }
 
@@ -335,6 +394,12 @@ static void repeat_questions(struct bytes *out, int count, int explained)
             explain(out, 0, 0);
         else
             ask(out, 0, 0);
+}
+
+static void repeat_pairs(struct bytes *out, int count)
+{
+    for (int i = 0; i < count; i++)
+        differ(out, 0, 0);
 }
 
 static void limit_tags(struct bytes *out, int which)
@@ -362,10 +427,10 @@ static void limit_units(struct bytes *out, int which)
 static void limit_tag(struct bytes *out, int which)
 {
     static const int kind[] = {KIND_EQUAL, KIND_EQUAL, KIND_APPLY, KIND_APPLY, KIND_APPLY, KIND_ASK, KIND_ASK, KIND_EXPLAIN,
-                               KIND_EXPLAIN, KIND_WHY, KIND_WHY};
-    static const int where[] = {0, 1, 0, 1, 2, 0, 1, 0, 1, 0, 1};
+                               KIND_EXPLAIN, KIND_DIFFER, KIND_DIFFER, KIND_WHY, KIND_WHY};
+    static const int where[] = {0, 1, 0, 1, 2, 0, 1, 0, 1, 0, 1, 0, 1};
     static const int n[] = {1, 5, 1000};
-    int place = which % 11, over = which / 11 % 2, number[3] = {0, 0, 0}, size = n[which / 22];
+    int place = which % 13, over = which / 13 % 2, number[3] = {0, 0, 0}, size = n[which / 26];
     number[where[place]] = size - 1 + over;
     tags(out, size);
     equal(out, 0, 0);
@@ -376,7 +441,7 @@ static void limit_tag(struct bytes *out, int which)
 /* Several tags of one field at the limit: every choice of those that are too high, in each kind, by one or by many. */
 static void limit_tags_wrong(struct bytes *out, int which)
 {
-    static const int kind[] = {KIND_EQUAL, KIND_APPLY, KIND_ASK, KIND_EXPLAIN, KIND_WHY};
+    static const int kind[] = {KIND_EQUAL, KIND_APPLY, KIND_ASK, KIND_EXPLAIN, KIND_DIFFER, KIND_WHY};
     int chosen = which % 8, far = which / 8 % 2, n = 3, number[3];
     for (int i = 0; i < 3; i++)
         number[i] = chosen >> i & 1 ? far ? 65535 - i : n : n - 1;
@@ -419,6 +484,7 @@ static void limit_counts(struct bytes *out, int which)
     case 18: /* the longest job */
     case 19: /* a byte longer */
         repeat_records(out, 4000, 1);
+        repeat_pairs(out, 500);
         repeat_questions(out, 1000, 2);
         end(out);
         if (which % 2 == 1)
@@ -441,8 +507,34 @@ static void limit_counts(struct bytes *out, int which)
         repeat_questions(out, 1000, 0);
         explain(out, 0, 1);
         break;
+    case 20: /* the 500th and the 501st kind 05 */
+    case 21:
+        repeat_pairs(out, 480 + which);
+        break;
+    case 22: /* the 501st has a tag too high: 7 before 11 */
+        repeat_pairs(out, 500);
+        differ(out, 1, 0);
+        break;
+    case 23: /* the 501st has a wrong length: 5 before 7 */
+        repeat_pairs(out, 500);
+        field(out, KIND_DIFFER, 1, 0, 0, 0);
+        break;
+    case 24: /* a 06 as the 1,000th and as the 1,001st question */
+    case 25:
+        repeat_questions(out, 975 + which, 2);
+        broken(out);
+        break;
+    case 26: /* pairs are no records, and records no pairs */
+        repeat_pairs(out, 500);
+        repeat_records(out, 4000, 0);
+        broken(out);
+        break;
+    case 27: /* a 06 with a body */
+        field(out, KIND_BROKEN, 1, 0, 0, 0);
+        break;
     default: /* 16 and 17: no end, of the longest job's bytes and of one more */
         repeat_records(out, 4000, 1);
+        repeat_pairs(out, 500);
         repeat_questions(out, 1000, 0);
         while (out->length < (size_t)(LONGEST_JOB + which - 16))
             byte_add(out, 0x10);
@@ -484,7 +576,7 @@ static void limit_room(struct bytes *out, int which)
     end(out);
 }
 
-enum { LIMIT_TAGS = 1, LIMIT_TAG = LIMIT_TAGS + 8, LIMIT_WRONG = LIMIT_TAG + 66, LIMIT_COUNTS = LIMIT_WRONG + 80, LIMIT_SHAPES = LIMIT_COUNTS + 20,
+enum { LIMIT_TAGS = 1, LIMIT_TAG = LIMIT_TAGS + 8, LIMIT_WRONG = LIMIT_TAG + 78, LIMIT_COUNTS = LIMIT_WRONG + 96, LIMIT_SHAPES = LIMIT_COUNTS + 28,
        LIMIT_ROOM = LIMIT_SHAPES + 60, LIMIT_BEHIND = LIMIT_ROOM + 2, LIMIT_UNITS = LIMIT_BEHIND + 2, LIMIT_WHYS = LIMIT_UNITS + 25, LIMITS = LIMIT_WHYS + 4 };
 
 /* 29 whys at N = 1,000 take 58,087 bytes; with 1,906 more, of asks and explains, and the totals the room is full. A 30th does not fit. And N = 1. */
@@ -793,8 +885,33 @@ static void make_quiet(struct bytes *out, int n, uint64_t seed, long index)
     end(out);
 }
 
+/* A chain of all tags but the last, each of 500 pairs with that one, so that all hold, 06 between the records as room allows; at the end
+   the last tag joins the chain, and the first pair is broken by all of it. */
+static void make_pairs(struct bytes *out, int n, uint64_t seed, long index)
+{
+    uint64_t state = state_of(seed, index);
+    int high = n > 2 ? n - 1 : 1, pairs = n > 1 ? 500 : 0;
+    tags(out, n);
+    for (int i = 0; i < pairs; i++)
+        differ(out, i * 7 % high, n - 1);
+    for (int i = 0; i < 200; i++)
+        broken(out);
+    for (int i = 0; i + 1 < high; i++) {
+        equal(out, i, i + 1);
+        if (i % 250 == 249)
+            broken(out);
+    }
+    broken(out);
+    if (n > 1)
+        equal(out, random_below(&state, high), n - 1);
+    broken(out);
+    broken(out);
+    end(out);
+}
+
 const struct kind kinds[] = {
     {"small", "random small jobs, questions anywhere", 12, make_small, NULL},
+    {"differ", "the same with pairs that must differ and 06", 12, make_differ, NULL},
     {"faulty", "small jobs with one fault", 12, make_faulty, NULL},
     {"garbage", "random bytes, mostly meaningful ones", 12, make_garbage, NULL},
     {"cut", "every truncation of three small jobs", 0, make_cut, cut_cases},
@@ -819,6 +936,7 @@ const struct kind kinds[] = {
     {"explains", "4,000 records over few tags, hundreds of explains", 25, make_explains, NULL},
     {"whys", "random records, whys between them up to 60,000 bytes of room", 1000, make_whys, NULL},
     {"quiet", "applications only, 1,000 asks", 1000, make_quiet, NULL},
+    {"pairs", "a chain, 500 pairs that hold, and 06", 1000, make_pairs, NULL},
     {NULL, NULL, 0, NULL, NULL}};
 
 const struct kind *kind_named(const char *name, int *size)

@@ -99,7 +99,7 @@ static void closures(void)
 static void histories(void)
 {
     for (long i = 0; i < 6000; i++) {
-        if (i < 5900 ? !make("small", 12, 104, i) : !make("dense", 16 + (int)i % 40, 105, i))
+        if (i < 5900 ? !make(i % 2 ? "differ" : "small", 12, 104, i) : !make("dense", 16 + (int)i % 40, 105, i))
             continue;
         history_of(&history, &job, LITERALLY);
         history_of(&other_history, &job, BY_USE_LISTS);
@@ -109,7 +109,7 @@ static void histories(void)
             same &= history.is_idle[k] == other_history.is_idle[k];
         for (int q = 0; q < job.questions; q++) {
             const struct moment *one = &history.moment[q], *two = &other_history.moment[q];
-            same &= one->follows == two->follows && one->leader_s == two->leader_s && one->leader_t == two->leader_t &&
+            same &= one->pair == two->pair && one->follows == two->follows && one->leader_s == two->leader_s && one->leader_t == two->leader_t &&
                     one->first == two->first && one->classes == two->classes;
         }
         expect(same, "the two histories differ");
@@ -212,12 +212,12 @@ static void subsets(void)
 {
     static unsigned char entailing[1 << 9];
     for (long i = 0; i < 4000; i++) {
-        if (!make("small", 6, 106, i) || job.records > 9)
+        if (!make(i % 4 ? "small" : "differ", 6, 106, i) || job.records > 9)
             continue;
         history_of(&history, &job, LITERALLY);
         history_of(&other_history, &job, BY_USE_LISTS);
         for (int q = 0; q < job.questions && q < 3; q++) {
-            int s = job.question[q].s, t = job.question[q].t;
+            int s = history.moment[q].s, t = history.moment[q].t;
             for (unsigned subset = 0; subset < 1u << job.records; subset++)
                 entailing[subset] = (unsigned char)entails(s, t, subset);
             all_subsets(q, entailing, s, t);
@@ -266,7 +266,7 @@ static void reports_of(enum way one, enum way other, uint64_t seed, int damaged)
 static void reports(void)
 {
     for (long i = 0; i < 2000; i++)
-        if (make("small", 12, 107, i))
+        if (make(i % 2 ? "differ" : "small", 12, 107, i))
             reports_of(LITERALLY, BY_USE_LISTS, (uint64_t)i + 1, i < 600);
     done("reports, right and damaged");
     for (const struct kind *each = kinds; each->name != NULL; each++)
@@ -291,13 +291,13 @@ static void text_damaged(const struct bytes *text)
         expect(!text_right((const char *)text->at, i), "a cut text is accepted");
         int line_start = i == 0 || text->at[i - 1] == '\n';
         if (line_start) {
-            in_list = text->at[i] == 'E';
+            in_list = text->at[i] == 'E' ? 3 : text->at[i] == 'C' ? 2 : 0;
             fields = 0;
         }
         fields += text->at[i] == ' ';
         memcpy(copy, text->at, text->length);
         copy[i] = (char)(copy[i] == '9' ? '8' : copy[i] + 1);
-        if (!(in_list && fields > 3))
+        if (!(in_list > 0 && fields > in_list))
             expect(!text_right(copy, text->length), "a changed text is accepted");
         if (text->at[i] == ' ') { /* a space doubled, a leading zero */
             memmove(copy + i + 1, text->at + i, text->length - i);
@@ -317,7 +317,7 @@ static void texts(void)
 {
     struct bytes text = {0};
     for (long i = 0; i < 1500; i++) {
-        if (i % 3 == 0 ? make("faulty", 12, 110, i) : make("small", 12, 111, i))
+        if (i % 3 == 0 ? make("faulty", 12, 110, i) : make(i % 3 == 1 ? "small" : "differ", 12, 111, i))
             history_of(&history, &job, way_for(&job));
         text.length = 0;
         lines_write(&job, &history, &text);
@@ -338,7 +338,7 @@ static int list_fault(const struct record *records, int count, int tags, int s, 
     for (int i = 0; i < count; i++)
         job.record[i + 1] = records[i];
     job.questions = 1;
-    job.question[0] = (struct question){1, s, t, count, 0};
+    job.question[0] = (struct question){1, s, t, count, 0, 0, 0};
     history_of(&history, &job, LITERALLY);
     history_of(&other_history, &job, BY_USE_LISTS);
     int one = reason_fault(&job, &history, 0, numbers, length);

@@ -29,7 +29,7 @@ enum haltzurme_number {
     HALTZURME_KIND = 4,     /* a kind unknown or out of its place */
     HALTZURME_LENGTH = 5,   /* a wrong length for the kind */
     HALTZURME_RANGE = 6,    /* N is 0 or above HALTZURME_MOST_TAGS, or U is above N */
-    HALTZURME_MANY = 7,     /* a record or a question too many */
+    HALTZURME_MANY = 7,     /* a record, a pair that must differ or a question too many */
     HALTZURME_BEHIND = 8,   /* a byte behind the end field */
     HALTZURME_ROOM = 9,     /* the run: the room is smaller than needed. Place 0 */
     HALTZURME_UNSOUND = 10, /* the recheck: the report is at fault. The first byte of the first field at fault */
@@ -38,13 +38,14 @@ enum haltzurme_number {
     HALTZURME_THIRD_TAG = 13   /* the third tag of a field is N or more */
 };
 
-/* The limits of document 01. */
+/* The limits of the documents. */
 enum haltzurme_limit {
     HALTZURME_MOST_TAGS = 1000,
     HALTZURME_MOST_RECORDS = 4000,
     HALTZURME_MOST_QUESTIONS = 1000,
-    HALTZURME_LONGEST_JOB = 43010,      /* bytes */
-    HALTZURME_LONGEST_REPORT = 3999007, /* bytes that are enough room for every job */
+    HALTZURME_MOST_PAIRS = 500,         /* that must differ */
+    HALTZURME_LONGEST_JOB = 46510,      /* bytes */
+    HALTZURME_LONGEST_REPORT = 4001007, /* bytes that are enough room for every job */
     HALTZURME_WORK = 32768,             /* numbers of the work table */
     HALTZURME_STACK = 131072            /* bytes of stack that a call may need, with a margin; bench/stack measures it */
 };
@@ -56,10 +57,14 @@ enum haltzurme_kind {
     HALTZURME_APPLICATION = 0x02,
     HALTZURME_ASK = 0x03,
     HALTZURME_EXPLAIN = 0x04,
+    HALTZURME_DIFFER = 0x05,
+    HALTZURME_BROKEN = 0x06,
     HALTZURME_END = 0x7F,
     HALTZURME_LED = 0x83,
     HALTZURME_REASON = 0x84,
     HALTZURME_APART = 0x85,
+    HALTZURME_BREACHED = 0x86,
+    HALTZURME_INTACT = 0x87,
     HALTZURME_TOTALS = 0x8F
 };
 

@@ -1,5 +1,6 @@
 // The questions of an accepted job, answered one after the other: each by the joins that were made before it, as a field of the
-// report. Document 01, "The job and the report". Rests on job_field, all_close, report_write, moment, answer_ask, answer_explain and answer_why.
+// report. Document 01, "The job and the report"; document 02, No. 1. Rests on job_field, all_close, report_write, moment, pairs, answer_ask, answer_explain,
+// broken_field and answer_why.
 ghost use mathlib.Core.Path.{_≡_};
 ghost use Prim.Native.Nat.{ℕ, _+_, _*_, _-_, _≤_, _<_, min};
 ghost use lib.ListN.{length};
@@ -7,44 +8,51 @@ ghost use Rattle.job_field.specs.Items.{start, neededRoom};
 ghost use Rattle.job_field.specs.Reading.{headIn, itemsIn};
 ghost use Rattle.job_field.specs.Answer.{questionSaid, said};
 ghost use Rattle.moment.specs.Posed.{headOf};
-ghost use Rattle.answer_ask.specs.Facing.{Facing, Answered};
-ghost use Rattle.answer_all.specs.Asking.{isEnd, Asking, Meeting, Onward, Told, Ready, Responded};
+ghost use Rattle.answer_ask.specs.Facing.{Replied};
+ghost use Rattle.answer_all.specs.Asking.{isEnd, Asked, Asking, Meeting, Onward, Told, Ready, Responded};
 use all_close::close;
 use answer_ask::answer_ask;
 use answer_explain::answer_explain;
+use answer_why::answer_why;
+use broken_field::answer_broken;
 use job_field::Field;
 use job_field::Query;
 use job_field::behind;
+use job_field::pairs_in;
 use job_field::read;
 use job_field::stands_for;
 use job_field::units;
 use job_field::wide;
 use moment::Closed;
+use pairs::mark_note;
 use report_write::write_totals;
-use answer_why::answer_why;
 
-// How far the answers have come: the place in the job, the place in the room, and the records passed.
+// How far the answers have come: the place in the job, the place in the room, and the records and the pairs that must differ passed.
 pub struct Spot {
     pub at: usize,
     pub out: usize,
     pub before: usize,
+    pub differs: usize,
 }
 
 // A question, as a field at a place of the room; the place behind it.
 fn answer_question(
     q: Query,
+    job: &[u8],
     room: &mut [u8],
     work: &mut [u16],
     c: Closed,
     before: usize,
+    differs: usize,
     out: usize,
 ) -> usize
-    requires { ⌜ Facing (now work) (now room) (headOf c) (c .len) (c .joins) before out (questionSaid q) ⌝ }
-    ensures { λ end. ⌜ Answered (now (work .entry)) (now (room .entry)) (headOf c) (c .len) before out (questionSaid q) (now (work .exit)) (now (room .exit)) end ⌝ }
+    requires { ⌜ Asked (now job) (now work) (now room) (headOf c) (c .len) (c .joins) before differs out (questionSaid q) ⌝ }
+    ensures { λ end. ⌜ Replied (now (job .entry)) (now (work .entry)) (now (room .entry)) before differs out (questionSaid q) (now (work .exit)) (now (room .exit)) end ⌝ }
 {
     match q {
         Query::Ask(s, t) => answer_ask(room, work, c, before, out, s, t),
         Query::Explain(s, t) => answer_explain(room, work, c, before, out, s, t),
+        Query::Broken => answer_broken(job, room, work, c, before, differs, out),
         Query::Why(s, t) => answer_why(room, work, c, before, out, s, t),
     }
 }
@@ -52,29 +60,36 @@ fn answer_question(
 // One field of the job, with the place behind it: a note is passed, a question answered.
 fn answer_field(
     field: Field,
+    job: &[u8],
     room: &mut [u8],
     work: &mut [u16],
     c: Closed,
     p: Spot,
     next: usize,
 ) -> Spot
-    requires { ⌜ Meeting (now work) (now room) (headOf c) (c .len) (c .joins) (p .out) (p .before) (said field) ⌝ }
-    ensures { λ r. ⌜ Onward (now (work .entry)) (now (room .entry)) (headOf c) (c .len) next (p .out) (p .before) (r .at) (r .out) (r .before) (now (work .exit)) (now (room .exit)) (said field) ⌝ }
+    requires { ⌜ Meeting (now job) (now work) (now room) (headOf c) (c .len) (c .joins) p (said field) ⌝ }
+    ensures { λ r. ⌜ Onward (now (job .entry)) (now (work .entry)) (now (room .entry)) (c .len) next p r (now (work .exit)) (now (room .exit)) (said field) ⌝ }
 {
     let out = p.out;
     let before = p.before;
+    let differs = p.differs;
     match field {
-        Field::Noted(l) => Spot {
-            at: next,
-            out,
-            before: before + wide(stands_for(l)),
-        },
+        Field::Noted(l) => {
+            mark_note(l, work, c, differs);
+            Spot {
+                at: next,
+                out,
+                before: before + wide(stands_for(l)),
+                differs: differs + wide(pairs_in(l)),
+            }
+        }
         Field::Posed(q) => {
-            let end = answer_question(q, room, work, c, before, out);
+            let end = answer_question(q, job, room, work, c, before, differs, out);
             Spot {
                 at: next,
                 out: end,
                 before,
+                differs,
             }
         }
         Field::Bad(_) => p,
@@ -105,6 +120,7 @@ pub fn answer_all(job: &[u8], room: &mut [u8], work: &mut [u16], c: Closed) -> u
         at: behind(job, 0),
         out: 0,
         before: 0,
+        differs: 0,
     };
     loop {
         let at = p.at;
@@ -112,7 +128,7 @@ pub fn answer_all(job: &[u8], room: &mut [u8], work: &mut [u16], c: Closed) -> u
         if is_end(field) {
             return p.out;
         }
-        p = answer_field(field, room, work, c, p, behind(job, at));
+        p = answer_field(field, job, room, work, c, p, behind(job, at));
     }
 }
 

@@ -5,6 +5,7 @@ use mathlib.Core.Path.{_≡_}
 use mathlib.Core.List.{List}
 use lib.ListN.{length}
 use Rattle.job_field.specs.Items.{Head, Matter, Moment, Question, roomOf, tagsOfQuestion}
+use Rattle.job_field.specs.Reading.{matterIn}
 use Rattle.job_field.specs.Standing.{Below}
 use Rattle.table.specs.Map.{recordsIn, Within}
 use Rattle.table.specs.Past.{Past}
@@ -23,6 +24,15 @@ pub record Facing (w room : List ℕ) (H : Head) (len joins before out : ℕ) (q
 pub record Answered (w room : List ℕ) (H : Head) (len before out : ℕ) (q : Question) (w′ room′ : List ℕ) (end : ℕ) : Type 0 where
   pub field : List ℕ
   pub right : (M : Matter) (b : Moment) → Known M b H (recordsIn len w) before → Answers M b q field
+  pub front : room′ ≡ laid out field room
+  pub reached : end ≡ out + length field
+  pub kept : Within scratch w w′
+
+-- The same for the job at hand, where a question may also look at the pairs that must differ: the field is right at the moment with so many
+-- records and so many pairs before it.
+pub record Replied (job w room : List ℕ) (before differs out : ℕ) (q : Question) (w′ room′ : List ℕ) (end : ℕ) : Type 0 where
+  pub field : List ℕ
+  pub right : (b : Moment) → b .records ≡ before → b .differs ≡ differs → Answers (matterIn job) b q field
   pub front : room′ ≡ laid out field room
   pub reached : end ≡ out + length field
   pub kept : Within scratch w w′

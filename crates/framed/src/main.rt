@@ -208,7 +208,7 @@ fn with_reports(job: &mut [u8]) {
     serve(job, &mut space);
 }
 
-// A job of more than 43,010 bytes is refused whatever its length.
+// A job of more than 46,510 bytes is refused whatever its length.
 fn main() {
     let mut space = [0u8; 50000];
     with_reports(&mut space);

@@ -13,11 +13,13 @@ use Rattle.meaning.proofs.Looks.{led-one}
 use Rattle.meaning.proofs.Units.{leader-one}
 use Rattle.meaning.proofs.Laws.{classes-one, idles-one, reason-follows}
 use Rattle.meaning.specs.Limits.{namedNumbers, namedPlaces}
-use Rattle.job_field.specs.Items.{Head, Matter, matterOf, Moment, start, after, ask, why, Item, posed, Reading, refused, accepted, neededRoom}
+use Rattle.job_field.specs.Items.{Head, Matter, matterOf, Moment, start, after, ask, broken, why, Item, posed, Reading, refused, accepted, neededRoom}
 use Rattle.job_field.specs.Reading.{reading}
 use Rattle.records.specs.declared.Record.{Record}
 use Rattle.records.specs.Table.{blank, Blanked}
-use Rattle.report.specs.Report.{numbers, field, led, because, apart, parted, joined, Totalled, total, Sound, totals, passed, answered}
+use Rattle.report.specs.Broken.{PairReason}
+use Rattle.report.proofs.Broken.{earliest-one, earliest-some}
+use Rattle.report.specs.Report.{numbers, field, led, because, apart, breached, intact, parted, joined, Totalled, total, Sound, totals, passed, answered}
 use Rattle.call_look.specs.Clear.{Cleared}
 use Rattle.call_look.specs.Lent.{Lent}
 use Rattle.haltzurme.specs.Run.{Ran, long, narrow, unread, cramped, done}
@@ -46,6 +48,10 @@ led-alike : {M : Matter} {b : Moment} {s t l m l′ m′ : ℕ} {is : List Item}
     → Alike M b (posed (ask s t) ∷ is) (field 131 (numbers (l ∷ m ∷ [])) ++ bs) (field 131 (numbers (l′ ∷ m′ ∷ [])) ++ bs′)
 led-alike h k p q a = rw (p, q) (alike.answered (led h k) a)
 
+breach-alike : {M : Matter} {b : Moment} {k k′ : ℕ} {is : List Item} {L L′ bs bs′ : List ℕ} → k ≡ k′ → PairReason M b k L → PairReason M b k′ L′ → Alike M (after (posed broken) b) is bs bs′
+    → Alike M b (posed broken ∷ is) (field 134 (numbers (k ∷ L)) ++ bs) (field 134 (numbers (k′ ∷ L′)) ++ bs′)
+breach-alike {k′ = k′} {L = L} {L′ = L′} e r r′ a = rw e (alike.breached {k = k′} {L = L} {L′ = L′} (rw e at r) r′ a)
+
 parted-alike : {M : Matter} {b : Moment} {s t : ℕ} {L L′ : List ℕ} {is : List Item} {bs bs′ : List ℕ} → (Follows (UpTo (M .records) (b .records)) s t → ⊥) → Led (M .head .size) (M .head .units) (UpTo (M .records) (b .records)) L′ → L ≡ L′
     → Alike M (after (posed (why s t)) b) is bs bs′ → Alike M b (posed (why s t) ∷ is) (field 136 (numbers L) ++ bs) (field 136 (numbers L′) ++ bs′)
 parted-alike n d p a = rw p (alike.answered (parted n d) a)
@@ -59,6 +65,10 @@ sound-alike (answered (because r) s) (answered (because r′) u) = reasoned r r�
 sound-alike (answered (because r) s) (answered (apart n) u) = absurd (n (reason-follows r))
 sound-alike (answered (apart n) s) (answered (because r) u) = absurd (n (reason-follows r))
 sound-alike (answered (apart n) s) (answered (apart n′) u) = alike.answered (apart n) (sound-alike s u)
+sound-alike (answered (breached e r) s) (answered (breached e′ r′) u) = breach-alike (earliest-one e e′) r r′ (sound-alike s u)
+sound-alike (answered (breached e r) s) (answered (intact n) u) = absurd (earliest-some e n)
+sound-alike (answered (intact n) s) (answered (breached e r) u) = absurd (earliest-some e n)
+sound-alike (answered (intact n) s) (answered (intact n′) u) = alike.answered (intact n) (sound-alike s u)
 sound-alike (answered (parted n d) s) (answered (parted n′ d′) u) = parted-alike n′ d′ (led-one d d′) (sound-alike s u)
 sound-alike (answered (parted n d) s) (answered (joined f) u) = absurd (n f)
 sound-alike (answered (joined f) s) (answered (parted n d) u) = absurd (n f)

@@ -6,7 +6,7 @@ use mathlib.Core.Path.{_≡_, refl, ap}
 use mathlib.Core.List.{List, [], _∷_, List·Memᴰ, List·Memᴰ·cases-cons, List·Memᴰ·not-nil}
 use mathlib.Core.Logic.{inl, inr}
 use lib.ListN.{length, length-append}
-use Rattle.job_field.specs.Items.{Head, Note, line, Moment, after, Item, noted, posed, standsFor, recordsOf, questionsOf, roomOf, neededRoom, tagsOf, Asked, askedOf}
+use Rattle.job_field.specs.Items.{Head, Note, line, differ, pairsIn, pairsOf, Moment, after, Item, noted, posed, standsFor, recordsOf, questionsOf, roomOf, neededRoom, tagsOf, Asked, askedOf}
 use Rattle.job_field.specs.Standing.{Below, Tagged}
 
 abbrev pub roomForAll : Head → List Asked → ℕ
@@ -28,6 +28,10 @@ pub after-records : (b : Moment) (i : Item) (is : List Item) → after i b .reco
 after-records b (noted n) is = omega (arith, length-append (standsFor n) (recordsOf is))
 after-records b (posed q) is = refl
 
+pub after-differs : (b : Moment) (i : Item) (is : List Item) → after i b .differs + length (pairsOf is) ≡ b .differs + length (pairsOf (i ∷ is))
+after-differs b (noted n) is = omega (arith, length-append (pairsIn n) (pairsOf is))
+after-differs b (posed q) is = refl
+
 pub after-questions : (b : Moment) (i : Item) (is : List Item) → after i b .questions + questionsOf is ≡ b .questions + questionsOf (i ∷ is)
 after-questions b (noted n) is = refl
 after-questions b (posed q) is = omega arith
@@ -35,6 +39,11 @@ after-questions b (posed q) is = omega arith
 -- A note stands for few records.
 pub stands-few : (n : Note) → length (standsFor n) ≤ 1
 stands-few (line r) = omega arith
+stands-few (differ a b) = omega arith
+
+pub pairs-few : (n : Note) → length (pairsIn n) ≤ 1
+pairs-few (line r) = omega arith
+pairs-few (differ a b) = omega arith
 
 pub below-each : (N t : ℕ) (ts : List ℕ) → Below N ts → List·Memᴰ t ts → t < N
 below-each N t [] h m = absurd (List·Memᴰ·not-nil m)

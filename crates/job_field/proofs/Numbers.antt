@@ -8,7 +8,7 @@ use mathlib.Core.List.{List, [], _∷_}
 use lib.Dec.{eqb, ltb, leb}
 use lib.ListN.{length}
 use Rattle.meaning.specs.Following.{eq, app}
-use Rattle.job_field.specs.Items.{Head, unsized, Moment, start, after, line, ask, explain, why, noted, posed, Item, tagsOf, Reading, refused, accepted}
+use Rattle.job_field.specs.Items.{Head, unsized, Moment, start, after, line, differ, ask, explain, broken, why, noted, posed, Item, tagsOf, Reading, refused, accepted}
 use Rattle.job_field.specs.Reading.{Kind, first, first-units, unknown, Field, bad, header, item, end, known, lengthAt, behindAt, bodyLength, bodyAt, orElse, ofKind, fieldAt, kindAt, byteAt, checked, counted, sized, fieldTags, tagged, with, behind, onward, readFrom, reading}
 use Rattle.job_field.proofs.Reading.{body-later}
 
@@ -55,8 +55,10 @@ tags-few (bad n) = omega arith
 tags-few (header M) = omega arith
 tags-few (item (noted (line (eq a b)))) = omega arith
 tags-few (item (noted (line (app a b c)))) = omega arith
+tags-few (item (noted (differ a b))) = omega arith
 tags-few (item (posed (ask s t))) = omega arith
 tags-few (item (posed (explain s t))) = omega arith
+tags-few (item (posed broken)) = omega arith
 tags-few (item (posed (why s t))) = omega arith
 tags-few end = omega arith
 

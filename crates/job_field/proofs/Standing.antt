@@ -9,11 +9,11 @@ use mathlib.Core.List.{List, [], _∷_}
 use borrow.Author.Tests.{ltb-true, leb-true}
 use lib.Dec.{eqb, ltb, leb}
 use lib.ListN.{length}
-use Rattle.meaning.specs.Limits.{mostQuestions, mostRecords}
-use Rattle.job_field.specs.Items.{Head, unsized, headOf, itemsOf, Moment, start, after, Item, noted, posed, standsFor, Reading, refused, accepted, recordsOf, questionsOf}
+use Rattle.meaning.specs.Limits.{mostDiffers, mostQuestions, mostRecords}
+use Rattle.job_field.specs.Items.{Head, unsized, headOf, itemsOf, Moment, start, after, Item, noted, posed, standsFor, Reading, refused, accepted, recordsOf, pairsOf, questionsOf}
 use Rattle.job_field.specs.Reading.{Field, bad, header, item, end, fieldAt, byteAt, lengthAt, firstKind, bodyAt, behindAt, checked, counted, with, behind, onward, readFrom, reading, headIn, itemsIn, first, first-units, unknown}
 use Rattle.job_field.specs.Standing.{Few, Stands, ends, next, Job, Met}
-use Rattle.job_field.proofs.Items.{after-records, after-questions}
+use Rattle.job_field.proofs.Items.{after-records, after-differs, after-questions}
 use Rattle.job_field.proofs.Reading.{Passed, checked-passed, field-whole, field-passed, header-first, and-true, size-right}
 
 -- What is read behind the first field, where it is accepted.
@@ -21,6 +21,7 @@ record Rest (job : List ℕ) (H : Head) (b : Moment) (at : ℕ) (M : Head) (item
   size : M ≡ H
   stands : Stands job (H .size) at items
   records : b .records + length (recordsOf items) ≤ mostRecords
+  differs : b .differs + length (pairsOf items) ≤ mostDiffers
   questions : b .questions + questionsOf items ≤ mostQuestions
 
 record Split (i : Item) (X : Reading) (M : Head) (items : List Item) : Type 0 where
@@ -46,11 +47,11 @@ behind-ended job H at M items e = go (leb (length job) at) refl e
 
 -- Nothing stands before the first field, and behind an item that was counted stand no more than are allowed.
 pub start-few : Few start
-start-few = record { records = omega arith; questions = omega arith }
+start-few = record { records = omega arith; differs = omega arith; questions = omega arith }
 
 pub after-few : (b : Moment) (i : Item) → Few b → counted b (item i) ≡ true → Few (after i b)
-after-few b (noted n) f c = record { records = leb-true _ _ c; questions = f .questions }
-after-few b (posed q) f c = let l : b .questions < mostQuestions = ltb-true _ _ c in record { records = f .records; questions = omega arith }
+after-few b (noted n) f c = let p = and-true _ _ c in record { records = leb-true _ _ (p .0); differs = leb-true _ _ (p .1); questions = f .questions }
+after-few b (posed q) f c = let l : b .questions < mostQuestions = ltb-true _ _ c in record { records = f .records; differs = f .differs; questions = omega arith }
 
 module _ (job : List ℕ) (H : Head) where
   rest : (n : ℕ) (b : Moment) (at : ℕ) (M : Head) (items : List Item) → 0 < at → Few b → readFrom n job H b at ≡ accepted M items → Rest job H b at M items
@@ -75,6 +76,7 @@ module _ (job : List ℕ) (H : Head) where
             size = v .size;
             stands = next (p .is) (p .tags) (field-whole job at (item i) tt (p .is)) (v .stands);
             records = rw (after-records b i (s .others)) at (v .records);
+            differs = rw (after-differs b i (s .others)) at (v .differs);
             questions = rw (after-questions b i (s .others)) at (v .questions);
           })
       go ih end c e =
@@ -85,6 +87,7 @@ module _ (job : List ℕ) (H : Head) where
             size = d .size;
             stands = ends (p .is) (omega (arith, d .last, field-whole job at end tt (p .is)));
             records = omega (arith, f .records);
+            differs = omega (arith, f .differs);
             questions = omega (arith, f .questions);
           })
 
@@ -120,7 +123,7 @@ accepted-stands job H items e = go (checked unsized start (fieldAt job 0)) refl 
         let p : Passed unsized start (fieldAt job 0) (header M) = checked-passed unsized start (fieldAt job 0) (header M) tt c in
         let t = size-right M (p .number) in
         let v : Rest job M start (behindAt job 0) H items = rest job M (length job) start (behindAt job 0) H items (omega arith) start-few e in
-        rw (v .size) (record { some = t .0; most = t .1; units = t .2; records = omega (arith, v .records); questions = omega (arith, v .questions); first = p .is; stands = v .stands })
+        rw (v .size) (record { some = t .0; most = t .1; units = t .2; records = omega (arith, v .records); differs = omega (arith, v .differs); questions = omega (arith, v .questions); first = p .is; stands = v .stands })
     go (item i) c e = absurd (no-item-first job i (checked-passed unsized start (fieldAt job 0) (item i) tt c .is))
     go end c e = absurd (no-end-first job (checked-passed unsized start (fieldAt job 0) end tt c .is))
 

@@ -2,16 +2,16 @@
 -- Assumes nothing.
 use Prim.Native.Nat.{ℕ}
 use Rattle.meaning.specs.Following.{eq, app}
-use Rattle.job_field.specs.Items.{Note, line, Question, noted, posed, ask, explain, why}
-use Rattle.job_field.specs.Reading.{Kind, first, first-units, record-eq, record-app, question-ask, question-explain, question-why, last, unknown, Field, bad, header, item, end}
+use Rattle.job_field.specs.Items.{Note, line, differ, Question, noted, posed, ask, explain, broken, why}
+use Rattle.job_field.specs.Reading.{Kind, first, first-units, record-eq, record-app, note-differ, question-ask, question-explain, question-broken, question-why, last, unknown, Field, bad, header, item, end}
 use Rattle.job_field.specs.declared.Fault.{Fault}
 use Rattle.job_field.specs.declared.Fault.the-variants.{Cut, Misplaced, Misfit, OutOfRange, TooMany, Trailing, FirstTag, SecondTag, ThirdTag}
 use Rattle.job_field.specs.declared.Kind.{Kind as KindCode}
 use Rattle.job_field.specs.declared.Kind.the-variants as k
 use Rattle.job_field.specs.declared.Line.{Line}
-use Rattle.job_field.specs.declared.Line.the-variants.{Equation, Application}
+use Rattle.job_field.specs.declared.Line.the-variants.{Equation, Application, Differ}
 use Rattle.job_field.specs.declared.Query.{Query}
-use Rattle.job_field.specs.declared.Query.the-variants.{Ask, Explain, Why}
+use Rattle.job_field.specs.declared.Query.the-variants.{Ask, Explain, Broken, Why}
 use Rattle.job_field.specs.declared.Field.{Field as FieldCode}
 use Rattle.job_field.specs.declared.Field.the-variants.{Bad, Header, Noted, Posed, End}
 
@@ -34,6 +34,8 @@ kindOf k.Equal = record-eq
 kindOf k.Apply = record-app
 kindOf k.Asked = question-ask
 kindOf k.Explained = question-explain
+kindOf k.Differed = note-differ
+kindOf k.Breaking = question-broken
 kindOf k.Doubted = question-why
 kindOf k.Last = last
 kindOf k.Unknown = unknown
@@ -42,10 +44,12 @@ kindOf k.Unknown = unknown
 abbrev pub noteSaid : Line → Note
 noteSaid (Equation a b) = line (eq (a .0) (b .0))
 noteSaid (Application a b c) = line (app (a .0) (b .0) (c .0))
+noteSaid (Differ a b) = differ (a .0) (b .0)
 
 abbrev pub questionSaid : Query → Question
 questionSaid (Ask s t) = ask (s .0) (t .0)
 questionSaid (Explain s t) = explain (s .0) (t .0)
+questionSaid Broken = broken
 questionSaid (Why s t) = why (s .0) (t .0)
 
 -- What a field of the code says.

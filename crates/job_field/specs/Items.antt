@@ -1,4 +1,4 @@
--- Document 01, "The job and the report": what a job says once it has been read, and the room its report needs.
+-- Document 01, "The job and the report": what a job says once it has been read, and the room its report needs. Document 02, No. 1: tags that must differ.
 -- Assumes nothing.
 use Prim.Native.Nat.{ℕ, suc, _+_, _*_, _-_, min}
 use mathlib.Core.List.{List, [], _∷_, _++_}
@@ -10,18 +10,31 @@ pub record Head : Type 0 where
   pub size : ℕ
   pub units : ℕ
 
--- What a job notes: a record (kinds 01 and 02).
+-- What a job notes: a record (kinds 01 and 02), or that two tags must differ (05).
 pub data Note : Type 0 where
   line : Rec → Note
+  differ : ℕ → ℕ → Note
 
 -- The records that a note stands for, in the order of their numbers.
 abbrev pub standsFor : Note → List Rec
 standsFor (line r) = r ∷ []
+standsFor (differ a b) = []
 
--- The questions: 03 ask, 04 explain, 07 why it is a no (document 02, No. 7), on s and t.
+-- Kind 05 (a, b): two tags that must differ. It joins nothing: it is no record, and has numbers of its own.
+pub record Pair : Type 0 where
+  pub first : ℕ
+  pub second : ℕ
+
+-- The pair that a note says must differ.
+abbrev pub pairsIn : Note → List Pair
+pairsIn (line r) = []
+pairsIn (differ a b) = record { first = a; second = b } ∷ []
+
+-- The questions: 03 ask, 04 explain, 07 why it is a no (document 02, No. 7), on s and t; 06, which pair that must differ is broken.
 pub data Question : Type 0 where
   ask : ℕ → ℕ → Question
   explain : ℕ → ℕ → Question
+  broken : Question
   why : ℕ → ℕ → Question
 
 -- A field behind the first one: a note or a question.
@@ -53,29 +66,37 @@ recordsOf [] = []
 recordsOf (noted n ∷ is) = standsFor n ++ recordsOf is
 recordsOf (posed q ∷ is) = recordsOf is
 
+-- The pairs that must differ in the order they stand: "numbered from 1 apart from records".
+abbrev pub pairsOf : List Item → List Pair
+pairsOf [] = []
+pairsOf (noted n ∷ is) = pairsIn n ++ pairsOf is
+pairsOf (posed q ∷ is) = pairsOf is
+
 -- The number of questions, of all kinds together.
 abbrev pub questionsOf : List Item → ℕ
 questionsOf [] = 0
 questionsOf (noted n ∷ is) = questionsOf is
 questionsOf (posed q ∷ is) = suc (questionsOf is)
 
--- What stands before an item: so many records and questions.
+-- What stands before an item: so many records, pairs that must differ, and questions.
 pub record Moment : Type 0 where
   pub records : ℕ
+  pub differs : ℕ
   pub questions : ℕ
 
 -- Nothing stands before the first item; behind an item stands one note or one question more.
 abbrev pub start : Moment
-start = record { records = 0; questions = 0 }
+start = record { records = 0; differs = 0; questions = 0 }
 
 abbrev pub after : Item → Moment → Moment
-after (noted n) b = record { records = b .records + length (standsFor n); questions = b .questions }
-after (posed q) b = record { records = b .records; questions = b .questions + 1 }
+after (noted n) b = record { records = b .records + length (standsFor n); differs = b .differs + length (pairsIn n); questions = b .questions }
+after (posed q) b = record { records = b .records; differs = b .differs; questions = b .questions + 1 }
 
--- The room that a question needs, with R the records before it: 7 bytes for an ask; 3 + 2·min(R, 2(N-1)) for an explain; 3 + 2N for a why.
+-- The room that a question needs, with R the records before it: 7 bytes for an ask; 3 + 2·min(R, 2(N-1)) for an explain; 5 + 2·min(R, 2(N-1)) for a 06; 3 + 2N for a why.
 abbrev pub roomOf : Head → Moment → Question → ℕ
 roomOf H b (ask s t) = 7
 roomOf H b (explain s t) = 3 + 2 * min (b .records) (2 * (H .size - 1))
+roomOf H b broken = 5 + 2 * min (b .records) (2 * (H .size - 1))
 roomOf H b (why s t) = 3 + 2 * H .size
 
 -- Needed room: that of each question at its moment, and 7 for the totals.
@@ -84,13 +105,14 @@ neededRoom H b [] = 7
 neededRoom H b (noted n ∷ is) = neededRoom H (after (noted n) b) is
 neededRoom H b (posed q ∷ is) = roomOf H b q + neededRoom H (after (posed q) b) is
 
--- What a report is held against: the first field and the job's records.
+-- What a report is held against: the first field, the job's records, and its pairs that must differ.
 pub record Matter : Type 0 where
   pub head : Head
   pub records : List Rec
+  pub pairs : List Pair
 
 abbrev pub matterOf : Head → List Item → Matter
-matterOf H is = record { head = H; records = recordsOf is }
+matterOf H is = record { head = H; records = recordsOf is; pairs = pairsOf is }
 
 -- The tags of a record, a note, a question and an item, in the order of the job's table.
 abbrev pub tagsOfRecord : Rec → List ℕ
@@ -99,10 +121,12 @@ tagsOfRecord (app a b c) = a ∷ b ∷ c ∷ []
 
 abbrev pub tagsOfNote : Note → List ℕ
 tagsOfNote (line r) = tagsOfRecord r
+tagsOfNote (differ a b) = a ∷ b ∷ []
 
 abbrev pub tagsOfQuestion : Question → List ℕ
 tagsOfQuestion (ask s t) = s ∷ t ∷ []
 tagsOfQuestion (explain s t) = s ∷ t ∷ []
+tagsOfQuestion broken = []
 tagsOfQuestion (why s t) = s ∷ t ∷ []
 
 abbrev pub tagsOf : Item → List ℕ

@@ -4,8 +4,8 @@ use Prim.Native.Nat.{ℕ, _+_, _≤_, _<_}
 use mathlib.Core.Path.{_≡_}
 use mathlib.Core.List.{List, [], _∷_}
 use lib.ListN.{length}
-use Rattle.meaning.specs.Limits.{mostQuestions, mostRecords, mostTags}
-use Rattle.job_field.specs.Items.{Head, Item, tagsOf, Moment, start, accepted, recordsOf, questionsOf, neededRoom}
+use Rattle.meaning.specs.Limits.{mostDiffers, mostQuestions, mostRecords, mostTags}
+use Rattle.job_field.specs.Items.{Head, Item, tagsOf, Moment, start, accepted, recordsOf, pairsOf, questionsOf, neededRoom}
 use Rattle.job_field.specs.Reading.{fieldAt, header, item, end, behindAt, reading}
 
 -- Tags are below N.
@@ -23,6 +23,7 @@ pub data Stands (job : List ℕ) (N : ℕ) : ℕ → List Item → Type 0 where
 -- No more stand before a field than the limits allow.
 pub record Few (b : Moment) : Type 0 where
   pub records : b .records ≤ mostRecords
+  pub differs : b .differs ≤ mostDiffers
   pub questions : b .questions ≤ mostQuestions
 
 -- All that is known of an accepted job.
@@ -31,6 +32,7 @@ pub record Job (job : List ℕ) (H : Head) (items : List Item) : Type 0 where
   pub most : H .size ≤ mostTags
   pub units : H .units ≤ H .size
   pub records : length (recordsOf items) ≤ mostRecords
+  pub differs : length (pairsOf items) ≤ mostDiffers
   pub questions : questionsOf items ≤ mostQuestions
   pub first : fieldAt job 0 ≡ header H
   pub stands : Stands job (H .size) (behindAt job 0) items

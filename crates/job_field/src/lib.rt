@@ -1,12 +1,12 @@
 // The fields of a job: what its bytes say at a place. Document 01, "The job and the report" and "What is lent, and each
-// refusal"; document 02, No. 2. The field reader below is the only place on this side that makes a tag out of bytes; what limits a field is
+// refusal"; document 02, No. 1 and 2. The field reader below is the only place on this side that makes a tag out of bytes; what limits a field is
 // tested in job_limits. Rests on meaning.
 ghost use mathlib.Core.Path.{_≡_};
 ghost use Prim.Native.Nat.{_+_, _≤_};
 ghost use lib.ListN.{length};
 ghost use Rattle.job_field.specs.Reading.{byteAt, numberAt, firstKind, kindAt, laterKind, known, bodyLength, says, bodyAt, lengthAt, behindAt, ofKind, fieldAt, unitsOf, offsetOf};
 ghost use Rattle.job_field.specs.Answer.{numberOf, kindOf, noteSaid, said};
-ghost use Rattle.job_field.specs.Items.{standsFor};
+ghost use Rattle.job_field.specs.Items.{standsFor, pairsIn};
 use meaning::Tag;
 
 // Why a job is refused, in the order of the documents' numbers, 3 to 8 and 11 to 13.
@@ -19,7 +19,7 @@ pub enum Fault {
     Misfit,
     // N is 0 or above 1,000, or U is above N.
     OutOfRange,
-    // The 4,001st record or the 1,001st question.
+    // The 4,001st record, the 501st pair that must differ, or the 1,001st question.
     TooMany,
     // A byte after the end field.
     Trailing,
@@ -71,21 +71,25 @@ pub enum Kind {
     Apply,
     Asked,
     Explained,
+    Differed,
+    Breaking,
     Doubted,
     Last,
     Unknown,
 }
 
-// A note of the job, which is `Note` in specs/Items: a record.
+// A note of the job, which is `Note` in specs/Items: a record, or two tags that must differ.
 pub enum Line {
     Equation(Tag, Tag),
     Application(Tag, Tag, Tag),
+    Differ(Tag, Tag),
 }
 
 // A question of the job, which is `Question` in specs/Items.
 pub enum Query {
     Ask(Tag, Tag),
     Explain(Tag, Tag),
+    Broken,
     Why(Tag, Tag),
 }
 
@@ -123,6 +127,8 @@ fn later_kind(byte: u8) -> Kind
         0x02 => Kind::Apply,
         0x03 => Kind::Asked,
         0x04 => Kind::Explained,
+        0x05 => Kind::Differed,
+        0x06 => Kind::Breaking,
         0x07 => Kind::Doubted,
         0x7F => Kind::Last,
         _ => Kind::Unknown,
@@ -140,6 +146,8 @@ fn is_known(kind: Kind) -> bool
         Kind::Apply => true,
         Kind::Asked => true,
         Kind::Explained => true,
+        Kind::Differed => true,
+        Kind::Breaking => true,
         Kind::Doubted => true,
         Kind::Last => true,
         Kind::Unknown => false,
@@ -157,6 +165,8 @@ fn body_length(kind: Kind) -> u16
         Kind::Apply => 6,
         Kind::Asked => 4,
         Kind::Explained => 4,
+        Kind::Differed => 4,
+        Kind::Breaking => 0,
         Kind::Doubted => 4,
         Kind::Last => 0,
         Kind::Unknown => 0,
@@ -170,6 +180,18 @@ pub fn stands_for(l: Line) -> u16
     match l {
         Line::Equation(_, _) => 1,
         Line::Application(_, _, _) => 1,
+        Line::Differ(_, _) => 0,
+    }
+}
+
+// How many pairs that must differ a note has.
+pub fn pairs_in(l: Line) -> u16
+    ensures { λ r. ⌜ r ≡ length (pairsIn (noteSaid l)) ⌝ }
+{
+    match l {
+        Line::Equation(_, _) => 0,
+        Line::Application(_, _, _) => 0,
+        Line::Differ(_, _) => 1,
     }
 }
 
@@ -216,6 +238,8 @@ fn meant(kind: Kind, a: u16, b: u16, c: u16) -> Field
         Kind::Apply => Field::Noted(Line::Application(x, y, z)),
         Kind::Asked => Field::Posed(Query::Ask(x, y)),
         Kind::Explained => Field::Posed(Query::Explain(x, y)),
+        Kind::Differed => Field::Noted(Line::Differ(x, y)),
+        Kind::Breaking => Field::Posed(Query::Broken),
         Kind::Doubted => Field::Posed(Query::Why(x, y)),
         Kind::Last => Field::End,
         Kind::Unknown => Field::Bad(Fault::Misplaced),

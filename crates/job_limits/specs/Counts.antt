@@ -8,4 +8,4 @@ abbrev pub headOf : Top → Head
 headOf t = record { size = t .size; units = t .units }
 
 abbrev pub momentOf : Counts → Moment
-momentOf c = record { records = c .records; questions = c .questions }
+momentOf c = record { records = c .records; differs = c .differs; questions = c .questions }

@@ -1,11 +1,14 @@
-// The limits of a field: at most 4,000 records and 1,000 questions (7), N from 1 to 1,000 with U up to it (6) and tags below N (11, 12, 13). Document 01, "What is lent,
-// and each refusal", the second half of its order for a field, and document 02, No. 2 and 3. Here the tags of a job are compared with N. Rests on meaning and job_field.
+// The limits of a field: at most 4,000 records, 500 pairs that must differ and 1,000 questions (7), N from 1 to 1,000 with U up to it (6) and tags below N (11, 12, 13).
+// Document 01, "What is lent, and each refusal", the second half of its order for a field, and document 02, No. 1 to 3. Here the tags of a job are compared with N.
+// Rests on meaning and job_field.
 ghost use mathlib.Core.Path.{_≡_};
+ghost use Prim.Native.Nat.{_+_};
+ghost use lib.ListN.{length};
 ghost use mathlib.Core.Bool.{_&&_};
 ghost use lib.Dec.{ltb, leb};
 ghost use Rattle.job_field.specs.Reading.{orElse, counted, sizeRight, sized, fieldTags, tagged, checked};
 ghost use Rattle.job_field.specs.Answer.{numberOf, noteSaid, questionSaid, said};
-ghost use Rattle.job_field.specs.Items.{noted, posed, after, tagsOfNote, tagsOfQuestion};
+ghost use Rattle.job_field.specs.Items.{standsFor, pairsIn, noted, posed, after, tagsOfNote, tagsOfQuestion};
 ghost use Rattle.job_field.specs.Standing.{Few};
 ghost use Rattle.job_limits.specs.Counts.{headOf, momentOf};
 ghost use Rattle.job_limits.specs.Tags.{tagsIn};
@@ -13,12 +16,15 @@ use job_field::Fault;
 use job_field::Field;
 use job_field::Line;
 use job_field::Query;
+use job_field::pairs_in;
 use job_field::stands_for;
 use job_field::wide;
 use meaning::Tag;
 
-// At most so many records, so many questions, and so many tags.
+// At most so many records, pairs that must differ, questions and tags.
 const MOST_RECORDS: usize = meaning::MOST_RECORDS;
+
+const MOST_DIFFERS: usize = meaning::MOST_DIFFERS;
 
 const MOST_QUESTIONS: u16 = meaning::MOST_QUESTIONS as u16;
 
@@ -30,9 +36,10 @@ pub struct Top {
     pub units: u16,
 }
 
-// What stands before a field: so many records and questions.
+// What stands before a field: so many records, pairs that must differ, and questions.
 pub struct Counts {
     pub records: u16,
+    pub differs: u16,
     pub questions: u16,
 }
 
@@ -43,6 +50,7 @@ pub fn past_note(c: Counts, l: Line) -> Counts
 {
     Counts {
         records: c.records + stands_for(l),
+        differs: c.differs + pairs_in(l),
         questions: c.questions,
     }
 }
@@ -53,18 +61,30 @@ pub fn past_question(c: Counts, q: Query) -> Counts
 {
     Counts {
         records: c.records,
+        differs: c.differs,
         questions: c.questions + 1,
     }
 }
 
-// The count limit: 4,000 records, 1,000 questions.
+// Whether a note leaves the records and the pairs within their limits.
+fn note_fits(c: Counts, l: Line) -> bool
+    ensures { λ r. ⌜ r ≡ (leb (c .records + length (standsFor (noteSaid l))) 4000 && leb (c .differs + length (pairsIn (noteSaid l))) 500) ⌝ }
+{
+    if wide(c.records) + wide(stands_for(l)) <= MOST_RECORDS {
+        wide(c.differs) + wide(pairs_in(l)) <= MOST_DIFFERS
+    } else {
+        false
+    }
+}
+
+// The count limit: 4,000 records, 500 pairs that must differ, 1,000 questions.
 fn is_counted(c: Counts, field: Field) -> bool
     ensures { λ r. ⌜ r ≡ counted (momentOf c) (said field) ⌝ }
 {
     match field {
         Field::Bad(_) => true,
         Field::Header(_, _) => true,
-        Field::Noted(l) => wide(c.records) + wide(stands_for(l)) <= MOST_RECORDS,
+        Field::Noted(l) => note_fits(c, l),
         Field::Posed(_) => c.questions < MOST_QUESTIONS,
         Field::End => true,
     }
@@ -101,6 +121,7 @@ fn note_tags(l: Line) -> Tags
     match l {
         Line::Equation(a, b) => Tags::Two(a, b),
         Line::Application(a, b, c) => Tags::Three(a, b, c),
+        Line::Differ(a, b) => Tags::Two(a, b),
     }
 }
 
@@ -110,6 +131,7 @@ fn question_tags(q: Query) -> Tags
     match q {
         Query::Ask(s, t) => Tags::Two(s, t),
         Query::Explain(s, t) => Tags::Two(s, t),
+        Query::Broken => Tags::None,
         Query::Why(s, t) => Tags::Two(s, t),
     }
 }

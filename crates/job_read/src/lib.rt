@@ -80,13 +80,14 @@ fn most_numbers(size: u16, records: u16) -> usize
 // The room that a question needs at its moment.
 fn room_of(top: Top, c: Counts, q: Query) -> usize
     requires { ⌜ top .size ≤ mostTags ⌝ }
-    ensures { λ r. ⌜ (r ≡ roomOf (headOf top) (momentOf c) (questionSaid q)) × (r ≤ 4 * mostTags) ⌝ }
+    ensures { λ r. ⌜ (r ≡ roomOf (headOf top) (momentOf c) (questionSaid q)) × (r ≤ 4 * mostTags + 1) ⌝ }
 {
     let most = most_numbers(top.size, c.records);
     let all = wide(top.size);
     match q {
         Query::Ask(_, _) => ROOM_OF_ASK,
         Query::Explain(_, _) => 3 + 2 * most,
+        Query::Broken => 5 + 2 * most,
         Query::Why(_, _) => 3 + 2 * all,
     }
 }
@@ -160,6 +161,7 @@ pub fn read_job(job: &[u8]) -> Answer
         top: Top { size: 0, units: 0 },
         counts: Counts {
             records: 0,
+            differs: 0,
             questions: 0,
         },
         room: 0,

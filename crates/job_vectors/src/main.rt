@@ -1,6 +1,6 @@
 // Damaged jobs and jobs at a limit, each with the number and the place that document 01 gives it. A line of standard input is a name, the number and the
-// place, and after a colon the job's bytes; an empty line parts those that stand alone from those that go on behind 4,000 records, behind 1,000 questions, and
-// behind the longest job. A line that is written is a name, the number and the place that `job_read::read_job` answered; where those are not the expected ones,
+// place, and after a colon the job's bytes; an empty line parts those that stand alone from those that go on behind 4,000 records, behind 1,000 questions,
+// behind 500 pairs that must differ, and behind the longest job. A line that is written is a name, the number and the place that `job_read::read_job` answered; where those are not the expected ones,
 // they are written behind. Of an accepted job a second line tells N, the records, the questions and the needed room. Every truncation, every changed byte and
 // jobs in disorder are the comparison's (compare/framed). Rests on job_field, job_read and console; no contract says what is written, the stored output does.
 ghost use mathlib.Core.Path.{_≡_};
@@ -266,15 +266,22 @@ fn questions(room: &mut [u8]) -> usize {
     )
 }
 
-// The longest job that states no U, of 43,008 bytes with its end.
+// All pairs that must differ: the 501st comes behind them.
+fn differs(room: &mut [u8]) -> usize {
+    let begun = put(room, 0, b"\x10\x00\x02\x03\xE8");
+    repeat(room, begun, b"\x05\x00\x04\x00\x00\x03\xE7", 500)
+}
+
+// The longest job that states no U, of 46,508 bytes with its end.
 fn longest(room: &mut [u8]) -> usize {
-    filled(
+    let half = filled(
         room,
         b"\x02\x00\x06\x03\xE7\x00\x00\x03\xE7",
         4000,
-        b"\x04\x00\x04\x00\x00\x03\xE7",
-        1000,
-    )
+        b"\x05\x00\x04\x00\x00\x03\xE7",
+        500,
+    );
+    repeat(room, half, b"\x04\x00\x04\x00\x00\x03\xE7", 1000)
 }
 
 fn behind_records(text: &[u8], from: usize, room: &mut [u8]) -> usize {
@@ -287,6 +294,11 @@ fn behind_questions(text: &[u8], from: usize, room: &mut [u8]) -> usize {
     rows(text, from, room, full)
 }
 
+fn behind_differs(text: &[u8], from: usize, room: &mut [u8]) -> usize {
+    let full = differs(room);
+    rows(text, from, room, full)
+}
+
 fn behind_all(text: &[u8], from: usize, room: &mut [u8]) -> usize {
     let full = longest(room);
     rows(text, from, room, full)
@@ -295,7 +307,8 @@ fn behind_all(text: &[u8], from: usize, room: &mut [u8]) -> usize {
 fn all(text: &[u8], room: &mut [u8]) {
     let second = rows(text, 0, room, 0);
     let third = behind_records(text, second, room);
-    let last = behind_questions(text, third, room);
+    let fourth = behind_questions(text, third, room);
+    let last = behind_differs(text, fourth, room);
     behind_all(text, last, room);
 }
 

@@ -9,12 +9,16 @@ use lib.Seq.{drop-cons}
 use Rattle.meaning.specs.Following.{UpTo}
 use Rattle.meaning.specs.Totals.{Classes, Idles}
 use Rattle.meaning.proofs.Laws.{classes-one, idles-one, classes-most, idles-most}
-use Rattle.job_field.specs.Items.{Head, Matter, Moment, start, after, Note, standsFor, Question, tagsOfQuestion, Item, noted, posed, recordsOf}
+use Rattle.job_field.specs.Items.{Head, Matter, Moment, start, after, Note, standsFor, pairsIn, Question, tagsOfQuestion, Item, noted, posed, recordsOf, pairsOf}
 use Rattle.job_field.specs.Reading.{unitsOf, behindAt, fieldAt, bad, header, item, end, headIn, itemsIn, matterIn}
-use Rattle.job_field.specs.Standing.{Below, Met}
+use Rattle.job_field.specs.Standing.{Below, Job, Met}
 use Rattle.job_field.proofs.Standing.{stands-item, stands-end, stands-not-bad, stands-not-header, stands-within}
 use Rattle.table.specs.Map.{recordsIn, Within}
-use Rattle.table.specs.Places.{LIST, fromTo, scratch}
+use Rattle.table.specs.Past.{Past}
+use Rattle.table.specs.Places.{LIST, behindJoins, fromTo, scratch}
+use Rattle.pairs.specs.Marks.{Marking, Noted}
+use Rattle.pairs.specs.Breaking.{Breaking, Guarded}
+use Rattle.pairs.proofs.Breaking.{guarded-begin, guarded-kept, guarded-note, guarded-room, breaking-here}
 use Rattle.moment.proofs.Kept.{kept-records, kept-past}
 use Rattle.report.specs.Report.{numbers, field, Answers, Totalled, total, Sound, totals, passed, answered, Known}
 use Rattle.report.specs.Fault.{Stands, FaultAt, past, behind, wrong as faulty, closing, spare}
@@ -35,6 +39,10 @@ use Rattle.judge.specs.Ended as r
 use Rattle.judge.specs.Going.{Going, Turned, on, done, behind as turnBehind}
 use Rattle.answer_ask.proofs.Right.{found}
 
+-- What the table knows of the job at a moment.
+pub known-here : {job w : List ℕ} {H : Head} {len joins before differs : ℕ} → Breaking job w H len joins before differs → (b : Moment) → b .records ≡ before → Known (matterIn job) b H (recordsIn len w) before
+known-here B b e = record { head = B .head; records = sym (B .records); before = e }
+
 -- The table's data are kept by what writes only from the list on.
 pub judgeable-kept : {job w w′ : List ℕ} {N len joins idle e : ℕ} → Within (fromTo (LIST .at) e) w w′ → Judgeable job w N len joins idle → Judgeable job w′ N len joins idle
 judgeable-kept {len = len} f h = record {
@@ -47,20 +55,22 @@ judgeable-kept {len = len} f h = record {
   idles = h .idles;
 }
 
-pub going-start : {job w : List ℕ} {N len joins idle : ℕ} (report : List ℕ) → Judgeable job w N len joins idle → (at : ℕ) → at ≡ behindAt job 0 → Going job report (record { at = at; place = 0; before = 0 })
-going-start {job} report h at e = record {
+pub going-start : {job w : List ℕ} {N len joins idle : ℕ} (report : List ℕ) → Judgeable job w N len joins idle → (at : ℕ) → at ≡ behindAt job 0 → Going job report w (record { at = at; place = 0; before = 0; differs = 0 })
+going-start {job} {w} report h at e = record {
   left = itemsIn job;
   stands = rw e (h .accepted .stands);
   moment = start;
   passed = refl;
+  differed = refl;
+  guarded = guarded-begin job w;
   counted = omega arith;
   within = omega arith;
   sound = λ s. s;
   fault = λ p f. f;
 }
 
-pub going-within : {job report : List ℕ} {s : Stand} → Going job report s → s .at + 3 ≤ length job
-going-within {job} {report} {s} g = stands-within job (headIn job .size) (s .at) (g .left) (g .stands)
+pub going-within : {job report w : List ℕ} {s : Stand} → Going job report w s → s .at + 3 ≤ length job
+going-within {job} {report} {w} {s} g = stands-within job (headIn job .size) (s .at) (g .left) (g .stands)
 
 -- A sound rest, or a fault in it, with the bytes as they stand.
 module _ {M : Matter} {b : Moment} where
@@ -77,10 +87,10 @@ record Over (job report : List ℕ) (s : Stand) (b : Moment) (is : List Item) : 
   sound : Sound (matterIn job) b is (drop (s .place) report) → Sound (matterIn job) start (itemsIn job) report
   fault : (p : ℕ) → FaultAt (matterIn job) b is (s .place) (drop (s .place) report) p → FaultAt (matterIn job) start (itemsIn job) 0 report p
 
-over : {job report : List ℕ} {s : Stand} (g : Going job report s) (is : List Item) → g .left ≡ is → Over job report s (g .moment) is
-over {job} {report} {s} g is e = subst (λ (x : List Item). Over job report s (g .moment) x) e (record { counted = g .counted; within = g .within; sound = g .sound; fault = g .fault })
+over : {job report w : List ℕ} {s : Stand} (g : Going job report w s) (is : List Item) → g .left ≡ is → Over job report s (g .moment) is
+over {job} {report} {w} {s} g is e = subst (λ (x : List Item). Over job report s (g .moment) x) e (record { counted = g .counted; within = g .within; sound = g .sound; fault = g .fault })
 
-module _ {job report : List ℕ} {s : Stand} (g : Going job report s) where
+module _ {job report w : List ℕ} {s : Stand} (g : Going job report w s) where
   met : (i : Item) → fieldAt job (s .at) ≡ item i → Met job (headIn job .size) (s .at) i (g .left)
   met i e = stands-item job (headIn job .size) (s .at) i (g .left) (g .stands) e
 
@@ -90,49 +100,60 @@ module _ {job report : List ℕ} {s : Stand} (g : Going job report s) where
   pub before-most : s .before ≤ length (recordsOf (itemsIn job))
   before-most = omega (arith, g .counted)
 
-  -- A note.
-  pub going-note : (m : Note) (n k : ℕ) → n ≡ behindAt job (s .at) → k ≡ length (standsFor m) → fieldAt job (s .at) ≡ item (noted m) → Turned job report s (On (record { at = n; place = s .place; before = s .before + k }))
-  going-note m n k i d e =
+  -- A note, with its pair marked.
+  pub going-note : (m : Note) (n k d : ℕ) {w′ : List ℕ} {len : ℕ} → n ≡ behindAt job (s .at) → k ≡ length (standsFor m) → d ≡ length (pairsIn m) → recordsIn len w ≡ recordsOf (itemsIn job) → Noted w w′ len (s .differs) m
+      → fieldAt job (s .at) ≡ item (noted m) → Turned job report w′ s (On (record { at = n; place = s .place; before = s .before + k; differs = s .differs + d }))
+  going-note m n k d i h l r q e =
       let y = met (noted m) e in
       let o = over g (noted m ∷ y .rest) (y .first) in
-      on {t = record { at = n; place = s .place; before = s .before + k }} (omega arith)
+      on {t = record { at = n; place = s .place; before = s .before + k; differs = s .differs + d }} (omega arith)
       (record {
         left = y .rest;
         stands = rw i (y .onward);
         moment = after (noted m) (g .moment);
-        passed = rw (d, g .passed);
+        passed = rw (h, g .passed);
+        differed = rw (l, g .differed);
+        guarded = rw l (guarded-note m (pairsOf (y .rest)) r q (rw (y .first) at (g .guarded)));
         counted = omega (arith, o .counted, length-append (standsFor m) (recordsOf (y .rest)));
         within = g .within;
         sound = λ h. o .sound (passed h);
         fault = λ p f. o .fault p (past f);
       })
 
+  pub marking-there : {H : Head} {len joins : ℕ} (m : Note) → Job job (headIn job) (itemsIn job) → headIn job ≡ H → Past (H .size) len w joins → fieldAt job (s .at) ≡ item (noted m) → Marking w H len joins (s .differs) m
+  marking-there m j z p e =
+      let y = met (noted m) e in
+      record { past = p; units = rw z at (j .units); tags = rw z at (y .tags); room = guarded-room m (pairsOf (y .rest)) j (rw (y .first) at (g .guarded)) }
+
   -- A question whose field is right, or wrong.
-  going-question : (q : Question) (n : ℕ) → n ≡ behindAt job (s .at) → fieldAt job (s .at) ≡ item (posed q) → (a : Passed) → RightAt (Answers (matterIn job) (g .moment) q) report (s .place) a
-      → Turned job report s (turnBehind a n (s .place) (s .before))
-  going-question q n k e (To p) h = go h refl
+  going-question : (q : Question) (n : ℕ) {w′ : List ℕ} → Within scratch w w′ → n ≡ behindAt job (s .at) → fieldAt job (s .at) ≡ item (posed q) → (a : Passed) → RightAt (Answers (matterIn job) (g .moment) q) report (s .place) a
+      → Turned job report w′ s (turnBehind a n (s .place) (s .before) (s .differs))
+  going-question q n {w′} v k e (To p) h = go h refl
     where
-      go : {a : Passed} → RightAt (Answers (matterIn job) (g .moment) q) report (s .place) a → a ≡ To p → Turned job report s (turnBehind (To p) n (s .place) (s .before))
+      go : {a : Passed} → RightAt (Answers (matterIn job) (g .moment) q) report (s .place) a → a ≡ To p → Turned job report w′ s (turnBehind (To p) n (s .place) (s .before) (s .differs))
       go (to {f = f} {p = p′} a h x) z =
           let m = met (posed q) e in
           let o = over g (posed q ∷ m .rest) (m .first) in
           let y : s .place + length f ≡ p = cc in
           let bs : f ++ drop p report ≡ drop (s .place) report = rw (← y) (sym h) in
-          on {t = record { at = n; place = p; before = s .before }} (omega arith)
+          let u : Guarded job w′ (s .differs) (pairsOf (g .left)) = guarded-kept v (omega arith) (g .guarded) in
+          on {t = record { at = n; place = p; before = s .before; differs = s .differs }} (omega arith)
           (record {
             left = m .rest;
             stands = rw k (m .onward);
             moment = after (posed q) (g .moment);
             passed = g .passed;
+            differed = g .differed;
+            guarded = rw (m .first) at u;
             counted = o .counted;
             within = omega (arith, holds-room report (s .place) f (g .within) h);
             sound = λ t. o .sound (sound-moved bs (answered a t));
             fault = λ r t. o .fault r (fault-moved refl bs (behind a (fault-moved (sym y) refl t)));
           })
       go (wrong h) z = let y : _≡_ {A = ℕ} 0 1 = cc in absurd (omega arith)
-  going-question q n k e Wrong h = go h refl
+  going-question q n {w′} v k e Wrong h = go h refl
     where
-      go : {a : Passed} → RightAt (Answers (matterIn job) (g .moment) q) report (s .place) a → a ≡ Wrong → Turned job report s (turnBehind Wrong n (s .place) (s .before))
+      go : {a : Passed} → RightAt (Answers (matterIn job) (g .moment) q) report (s .place) a → a ≡ Wrong → Turned job report w′ s (turnBehind Wrong n (s .place) (s .before) (s .differs))
       go (to a h x) z = let y : _≡_ {A = ℕ} 0 1 = cc in absurd (omega arith)
       go (wrong h) z = let m = met (posed q) e in done (fault (over g (posed q ∷ m .rest) (m .first) .fault (s .place) (faulty h)))
 
@@ -173,8 +194,8 @@ module _ (M : Matter) {c i : ℕ} (h : Classes (M .head .size) (UpTo (M .records
       fault {p = p} (rw q (closing (λ x. let y = found report at x in g (rw (totals-field h k (y .is)) at (y .holds)))))
 
 -- The answer at the end field.
-pub going-end : {job report w : List ℕ} {N len joins idle : ℕ} {s : Stand} → Judgeable job w N len joins idle → Going job report s → fieldAt job (s .at) ≡ end
-    → (a : Judgement) → Ended report (s .place) (N - joins) idle a → Turned job report s (Done a)
+pub going-end : {job report w : List ℕ} {N len joins idle : ℕ} {s : Stand} → Judgeable job w N len joins idle → Going job report w s → fieldAt job (s .at) ≡ end
+    → (a : Judgement) → Ended report (s .place) (N - joins) idle a → Turned job report w s (Done a)
 going-end {job} {report} {w} {N} {len} {joins} {idle} {s} J g e a h =
     let o = over g [] (stands-end job (headIn job .size) (s .at) (g .left) (g .stands) e) in
     let c : Classes (headIn job .size) (UpTo (recordsOf (itemsIn job)) (length (recordsOf (itemsIn job)))) (N - joins) = rw (J .size) (rw (J .count) at (J .classes)) in
@@ -185,25 +206,27 @@ going-end {job} {report} {w} {N} {len} {joins} {idle} {s} J g e a h =
     whole o (fault {p = p} t) = fault (o .fault p t)
 
 -- An item of the job as the code meets it.
-module _ {job report w : List ℕ} (c : Closed) (s : Stand) (J : Judgeable job w (c .size) (c .len) (c .joins) (c .idle)) (g : Going job report s) (top : headIn job ≡ headOf c) where
-  pub testing-there : (q : Question) → fieldAt job (s .at) ≡ item (posed q) → Testing report w (headOf c) (c .len) (c .joins) (s .before) (s .place) q
-  testing-there q e = record { past = J .past; units = rw top at (J .accepted .units); early = omega (arith, before-most g, J .count); tags = rw (J .size) at (item-tags g q e); within = g .within }
+module _ {job report w : List ℕ} (c : Closed) (s : Stand) (J : Judgeable job w (c .size) (c .len) (c .joins) (c .idle)) (g : Going job report w s) (top : headIn job ≡ headOf c) where
+  pub testing-there : (q : Question) → fieldAt job (s .at) ≡ item (posed q) → Testing job report w (headOf c) (c .len) (c .joins) (s .before) (s .differs) (s .place) q
+  testing-there q e = record {
+    breaking = breaking-here (pairsOf (g .left)) (J .accepted) top (J .held) (J .past) (omega (arith, before-most g, J .count)) (g .guarded);
+    tags = rw (J .size) at (item-tags g q e);
+    within = g .within;
+  }
 
   pub turn-question : (q : Question) (n : ℕ) → n ≡ behindAt job (s .at) → fieldAt job (s .at) ≡ item (posed q) → {w′ : List ℕ}
-      → (r : Passed) → Tested report w w′ (headOf c) (c .len) (s .before) (s .place) q r → (t : Turn) → t ≡ turnBehind r n (s .place) (s .before) → Turned job report s t
-  turn-question q n k e r h t z =
-      let known : Known (matterIn job) (g .moment) (headOf c) (recordsIn (c .len) w) (s .before) = record { head = top; records = sym (J .held); before = g .passed } in
-      rw z (going-question g q n k e r (h .right (matterIn job) (g .moment) known))
+      → (r : Passed) → Tested job report w w′ (s .before) (s .differs) (s .place) q r → (t : Turn) → t ≡ turnBehind r n (s .place) (s .before) (s .differs) → Turned job report w′ s t
+  turn-question q n k e r h t z = rw z (going-question g q n (h .kept) k e r (h .right (g .moment) (g .passed) (g .differed)))
 
   pub totals-fit : (s .place ≤ length report) × (c .size - c .joins < 65536) × (c .idle < 65536)
   totals-fit = (g .within, omega (arith, classes-most (J .classes), J .past .loaded .few), omega (arith, idles-most (J .idles), J .count, J .past .loaded .most))
 
 -- A turn, taken apart.
-pub turned-on : {job report : List ℕ} {s t : Stand} {r : Turn} → Turned job report s r → r ≡ On t → (s .at < t .at) × Going job report t
-turned-on {job} {report} {s} {t} (on {t = t′} l g) e = let z : t′ ≡ t = cc in rw (← z) (l, g)
+pub turned-on : {job report w : List ℕ} {s t : Stand} {r : Turn} → Turned job report w s r → r ≡ On t → (s .at < t .at) × Going job report w t
+turned-on {job} {report} {w} {s} {t} (on {t = t′} l g) e = let z : t′ ≡ t = cc in rw (← z) (l, g)
 turned-on (done v) e = let z : _≡_ {A = ℕ} 0 1 = cc in absurd (omega arith)
 
-pub turned-done : {job report : List ℕ} {s : Stand} {a : Judgement} {r : Turn} → Turned job report s r → r ≡ Done a → Verdict (matterIn job) start (itemsIn job) 0 report a
+pub turned-done : {job report w : List ℕ} {s : Stand} {a : Judgement} {r : Turn} → Turned job report w s r → r ≡ Done a → Verdict (matterIn job) start (itemsIn job) 0 report a
 turned-done (on l g) e = let z : _≡_ {A = ℕ} 0 1 = cc in absurd (omega arith)
 turned-done {a = a} (done {answer = b} v) e = let z : b ≡ a = cc in rw (← z) v
 
@@ -213,7 +236,7 @@ head-read {job} J u e = let z : u ≡ headIn job .units = e ∙ ap unitsOf (J .a
 
 -- What is known at each turn of the loop.
 pub record Judging (job report w₀ w : List ℕ) (c : Closed) (s : Stand) : Type 0 where
-  pub kept : Within scratch w₀ w
+  pub kept : Within behindJoins w₀ w
   pub judgeable : Judgeable job w (c .size) (c .len) (c .joins) (c .idle)
   pub top : headIn job ≡ headOf c
-  pub going : Going job report s
+  pub going : Going job report w s

@@ -9,6 +9,7 @@ use Rattle.job_field.specs.Items.{Head}
 use Rattle.report.specs.Report.{numbers, field}
 use Rattle.report_read.specs.Read.{Holds}
 use Rattle.moment.specs.declared.Question.{Question}
+use Rattle.moment.specs.declared.Closed.{Closed as Left}
 use Rattle.judge.specs.declared.Closed.{Closed}
 use Rattle.judge.specs.declared.Judgement.{Judgement}
 use Rattle.judge.specs.declared.Judgement.the-variants as j
@@ -20,6 +21,10 @@ headOf c = record { size = c .size; units = c .unit }
 -- A question at its moment, among what the closure left.
 abbrev pub question : Closed → ℕ → Tag → Tag → Question
 question c before s t = record { size = c .size; unit = c .unit; len = c .len; joins = c .joins; before = before; s = s; t = t }
+
+-- What the closure left, as the pairs are marked by it.
+abbrev pub leftOf : Closed → Left
+leftOf c = record { size = c .size; unit = c .unit; len = c .len; joins = c .joins }
 
 -- The end of the report: these totals and nothing behind them; or a byte behind them; or not these totals.
 pub data Ended (report : List ℕ) (at classes idle : ℕ) : Judgement → Type 0 where

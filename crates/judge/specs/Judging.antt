@@ -12,7 +12,7 @@ use Rattle.job_field.specs.Reading.{headIn, itemsIn, matterIn}
 use Rattle.job_field.specs.Standing.{Job}
 use Rattle.table.specs.Map.{recordsIn, Within}
 use Rattle.table.specs.Past.{Past}
-use Rattle.table.specs.Places.{scratch}
+use Rattle.table.specs.Places.{behindJoins}
 use Rattle.report.specs.Report.{Sound}
 use Rattle.report.specs.Fault.{FaultAt}
 use Rattle.judge.specs.declared.Judgement.{Judgement}
@@ -36,5 +36,5 @@ pub data Verdict (M : Matter) (b : Moment) (items : List Item) (at : ℕ) (bs : 
 
 -- A report was judged: the answer is right for the whole of it, and the table's data are kept.
 pub record Judged (job report w w′ : List ℕ) (answer : Judgement) : Type 0 where
-  pub kept : Within scratch w w′
+  pub kept : Within behindJoins w w′
   pub verdict : Verdict (matterIn job) start (itemsIn job) 0 report answer

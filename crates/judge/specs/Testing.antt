@@ -3,24 +3,25 @@
 use Prim.Native.Nat.{ℕ, _≤_}
 use mathlib.Core.List.{List}
 use lib.ListN.{length}
-use Rattle.job_field.specs.Items.{Head, Matter, Moment, Question, tagsOfQuestion}
+use Rattle.job_field.specs.Items.{Head, Moment, Question, tagsOfQuestion}
+use mathlib.Core.Path.{_≡_}
+use Rattle.job_field.specs.Reading.{matterIn}
 use Rattle.job_field.specs.Standing.{Below}
-use Rattle.table.specs.Map.{recordsIn, Within}
-use Rattle.table.specs.Past.{Past}
+use Rattle.table.specs.Map.{Within}
 use Rattle.table.specs.Places.{scratch}
-use Rattle.report.specs.Report.{Answers, Known}
+use Rattle.report.specs.Report.{Answers}
+use Rattle.pairs.specs.Breaking.{Breaking}
 use Rattle.answer_ask.specs.declared.Passed.{Passed}
 use Rattle.answer_ask.specs.Right.{RightAt}
 
--- The table holds what the question is about, and the place lies in the report.
-pub record Testing (report w : List ℕ) (H : Head) (len joins before place : ℕ) (q : Question) : Type 0 where
-  pub past : Past (H .size) len w joins
-  pub units : H .units ≤ H .size
-  pub early : before ≤ len
+-- The table holds what the question is about and keeps the pairs before it, and the place lies in the report.
+pub record Testing (job report w : List ℕ) (H : Head) (len joins before differs place : ℕ) (q : Question) : Type 0 where
+  pub breaking : Breaking job w H len joins before differs
   pub tags : Below (H .size) (tagsOfQuestion q)
   pub within : place ≤ length report
 
--- The right field stands there or none does, whatever else there is to the job, and only where reasons are looked for has the table changed.
-pub record Tested (report w w′ : List ℕ) (H : Head) (len before place : ℕ) (q : Question) (answer : Passed) : Type 0 where
+-- At the moment with so many records and so many pairs before it the right field stands there or none does, and only where reasons are looked for has
+-- the table changed.
+pub record Tested (job report w w′ : List ℕ) (before differs place : ℕ) (q : Question) (answer : Passed) : Type 0 where
   pub kept : Within scratch w w′
-  pub right : (M : Matter) (b : Moment) → Known M b H (recordsIn len w) before → RightAt (Answers M b q) report place answer
+  pub right : (b : Moment) → b .records ≡ before → b .differs ≡ differs → RightAt (Answers (matterIn job) b q) report place answer

@@ -1,27 +1,31 @@
 // The judge of a report against its job, over the table that the closure left. Document 01, "What is lent, and each refusal": the
-// report fields are compared in order, and the judge stops at the first that is at fault. Rests on job_field, report_read, moment, answer_ask and
-// judge_explain.
+// report fields are compared in order, and the judge stops at the first that is at fault. Document 02, No. 1. Rests on job_field, report_read, moment, pairs,
+// answer_ask, judge_explain and broken_test.
 ghost use mathlib.Core.Path.{_≡_};
 ghost use Prim.Native.Nat.{_≤_, _<_};
 ghost use lib.ListN.{length};
 ghost use Rattle.judge.specs.Judging.{Judgeable, Judged};
 ghost use Rattle.job_field.specs.Answer.{questionSaid};
 ghost use Rattle.job_field.specs.Reading.{headIn};
-ghost use Rattle.judge.specs.Ended.{headOf, question, Ended};
+ghost use Rattle.judge.specs.Ended.{headOf, question, leftOf, Ended};
 ghost use Rattle.judge.specs.Testing.{Testing, Tested};
 ghost use Rattle.judge.specs.Going.{Going, Advanced, behind};
 use answer_ask::Passed;
 use answer_ask::led;
+use answer_why::doubted;
+use broken_test::checked;
 use job_field::Field;
 use job_field::Query;
 use job_field::behind;
+use job_field::pairs_in;
 use job_field::stands_for;
 use job_field::units;
 use job_field::wide;
 use judge_explain::explained;
 use meaning::Tag;
+use moment::Closed as Left;
 use moment::Question;
-use answer_why::doubted;
+use pairs::mark_note;
 
 // What is judged of a report: it is sound, or the first byte of the first field at fault.
 pub enum Judgement {
@@ -38,11 +42,12 @@ pub struct Closed {
     pub idle: usize,
 }
 
-// How far the judge has come: the place in the job, the place in the report, and the records before both.
+// How far the judge has come: the place in the job, the place in the report, and the records and the pairs that must differ before both.
 pub struct Stand {
     pub at: usize,
     pub place: usize,
     pub before: usize,
+    pub differs: usize,
 }
 
 // What one more item leads to.
@@ -83,59 +88,82 @@ fn ended(report: &[u8], at: usize, classes: usize, idle: usize) -> Judgement
 }
 
 // What a question's field leads to, where the next item of the job stands at `at` and the field at `place` of the report.
-fn onward(passed: Passed, at: usize, place: usize, before: usize) -> Turn
-    ensures { λ r. ⌜ r ≡ behind passed at place before ⌝ }
+fn onward(passed: Passed, at: usize, place: usize, before: usize, differs: usize) -> Turn
+    ensures { λ r. ⌜ r ≡ behind passed at place before differs ⌝ }
 {
     match passed {
         Passed::To(p) => Turn::On(Stand {
             at,
             place: p,
             before,
+            differs,
         }),
         Passed::Wrong => Turn::Done(Judgement::Fault(place)),
     }
 }
 
+// What the closure left, as the pairs are marked by it.
+fn left(closed: Closed) -> Left
+    ensures { λ c. ⌜ c ≡ leftOf closed ⌝ }
+{
+    Left {
+        size: closed.size,
+        unit: closed.unit,
+        len: closed.len,
+        joins: closed.joins,
+    }
+}
+
 // Whether the right answer to a question stands at a place of the report.
 fn tested(
+    job: &[u8],
     report: &[u8],
     place: usize,
     work: &mut [u16],
     closed: Closed,
     before: usize,
+    differs: usize,
     q: Query,
 ) -> Passed
-    requires { ⌜ Testing (now report) (now work) (headOf closed) (closed .len) (closed .joins) before place (questionSaid q) ⌝ }
-    ensures { λ r. ⌜ Tested (now (report .entry)) (now (work .entry)) (now (work .exit)) (headOf closed) (closed .len) before place (questionSaid q) r ⌝ }
+    requires { ⌜ Testing (now job) (now report) (now work) (headOf closed) (closed .len) (closed .joins) before differs place (questionSaid q) ⌝ }
+    ensures { λ r. ⌜ Tested (now (job .entry)) (now (report .entry)) (now (work .entry)) (now (work .exit)) before differs place (questionSaid q) r ⌝ }
 {
     match q {
         Query::Ask(a, b) => led(report, place, work, posed(closed, before, a, b)),
         Query::Explain(a, b) => explained(report, place, work, posed(closed, before, a, b)),
+        Query::Broken => checked(job, report, place, work, left(closed), before, differs),
         Query::Why(a, b) => doubted(report, place, work, posed(closed, before, a, b)),
     }
 }
 
 // One item of the job, with the report beside it.
 fn advance(job: &[u8], report: &[u8], work: &mut [u16], closed: Closed, s: Stand) -> Turn
-    requires { ⌜ Judgeable (now job) (now work) (closed .size) (closed .len) (closed .joins) (closed .idle) × Going (now job) (now report) s × (headIn (now job) ≡ headOf closed) ⌝ }
+    requires { ⌜ Judgeable (now job) (now work) (closed .size) (closed .len) (closed .joins) (closed .idle) × Going (now job) (now report) (now work) s × (headIn (now job) ≡ headOf closed) ⌝ }
     ensures { λ r. ⌜ Advanced (now (job .entry)) (now (report .entry)) (now (work .entry)) (now (work .exit)) s r ⌝ }
 {
     let at = s.at;
     let place = s.place;
+    let before = s.before;
+    let differs = s.differs;
     let next = behind(job, at);
     match job_field::read(job, at) {
         Field::Bad(_) => Turn::Done(Judgement::Fault(place)),
         Field::Header(_, _) => Turn::Done(Judgement::Fault(place)),
-        Field::Noted(l) => Turn::On(Stand {
-            at: next,
-            place,
-            before: s.before + wide(stands_for(l)),
-        }),
+        Field::Noted(l) => {
+            mark_note(l, work, left(closed), differs);
+            Turn::On(Stand {
+                at: next,
+                place,
+                before: before + wide(stands_for(l)),
+                differs: differs + wide(pairs_in(l)),
+            })
+        }
         Field::Posed(q) => onward(
-            tested(report, place, work, closed, s.before, q),
+            tested(job, report, place, work, closed, before, differs, q),
             next,
             place,
-            s.before,
+            before,
+            differs,
         ),
         Field::End => Turn::Done(ended(report, place, closed.size - closed.joins, closed.idle)),
     }
@@ -166,6 +194,7 @@ pub fn judge(
         at: behind(job, 0),
         place: 0,
         before: 0,
+        differs: 0,
     };
     loop {
         match advance(job, report, work, closed, s) {

@@ -20,9 +20,7 @@ use Rattle.job_field.specs.Items.{Head, explain}
 use Rattle.table.specs.Map.{whenOf, recordsIn, listOf, listIn, Within}
 use Rattle.table.proofs.Frame.{within-refl, within-trans, within-wider, length-gather}
 use Rattle.table.specs.Past.{Past}
-use Rattle.moment.specs.Meeting.{Met}
 use Rattle.moment.proofs.Kept.{kept-records, kept-loaded}
-use Rattle.moment.proofs.Moments.{met-join, met-first, met-later, met-never}
 use Rattle.reason.proofs.Whole.{small-records}
 use Rattle.report.specs.Report.{numbers, field, Answers, because, apart, tabled, afterRecords}
 use Rattle.report.specs.Fault.{Stands}
@@ -40,22 +38,11 @@ use Rattle.answer_ask.specs.declared.Passed.the-variants.{To, Wrong}
 use Rattle.moment.specs.Posed.{Deciding}
 use Rattle.answer_ask.specs.Right.{RightAt, to, wrong}
 use Rattle.answer_ask.proofs.Right.{found}
-use Rattle.judge_explain.specs.Right.{Came, ExplainAnswer, Assuring, Explained, Reasoned, Known}
+use Rattle.judge_explain.specs.Right.{ExplainAnswer, Assuring, Explained, Reasoned, Known}
 use Rattle.reason_order.specs.Order.{Rising}
 use Rattle.reason_order.proofs.Order.{rising-named}
 use Rattle.reason_test.specs.Lists.{Named, Serving, Sufficient}
 use Rattle.reason_test.proofs.Lists.{posed-kept}
-
--- The first k.
-module _ {N len n : ℕ} {w : List ℕ} (P : Past N len w n) (R s t : ℕ) (l : R ≤ len) where
-  pub came-same : s ≡ t → Came (recordsIn len w) R s t 0
-  came-same e = rw e (record { then = λ _. record { then = same; before = λ n m. absurd (omega arith) }; never = λ m. absurd (omega arith) })
-
-  pub came-never : (b : ℕ) → Met w s t b → mostTags ≤ b → Came (recordsIn len w) R s t (R + 1)
-  came-never b M h = record { then = λ m. absurd (omega arith); never = λ m. met-never P M R l (omega (arith, M .most)) }
-
-  pub came-met : (b k : ℕ) → Met w s t b → b < mostTags → k ≡ whenOf w b → Came (recordsIn len w) R s t k
-  came-met b k M h e = rw e (record { then = λ m. met-first P M (met-join P M h); never = met-later P M R l (met-join P M h) })
 
 -- An explain where the equality does not follow has one right field.
 module _ {H : Head} {rs : List Rec} {R s t : ℕ} (h : Follows (UpTo rs R) s t → ⊥) (report : List ℕ) (at : ℕ) where

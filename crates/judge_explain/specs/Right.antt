@@ -1,11 +1,10 @@
 -- Whether the right field of an explain stands at a place of the report.
 -- Assumes nothing.
-use Prim.Native.Nat.{ℕ, _*_, _≤_, _<_}
+use Prim.Native.Nat.{ℕ, _*_, _≤_}
 use mathlib.Core.Path.{_≡_}
 use mathlib.Core.Bool.{Bool, true}
 use mathlib.Core.List.{List}
 use lib.ListN.{length}
-use Rattle.meaning.specs.Following.{Rec, Follows, UpTo}
 use Rattle.meaning.specs.Reasons.{FirstAt, Reason}
 use Rattle.job_field.specs.Items.{explain}
 use Rattle.table.specs.Map.{recordsIn, Within}
@@ -16,11 +15,6 @@ use Rattle.moment.specs.declared.Question.{Question}
 use Rattle.moment.specs.Posed.{headAsked, Posed}
 use Rattle.answer_ask.specs.declared.Passed.{Passed}
 use Rattle.answer_ask.specs.Right.{RightAt}
-
--- The first k such that s and t are equal by records 1 to k, if it is not above R; one above R, if they are not equal by the first R.
-pub record Came (rs : List Rec) (R s t k : ℕ) : Type 0 where
-  pub then : k ≤ R → FirstAt rs s t k
-  pub never : R < k → Follows (UpTo rs R) s t → ⊥
 
 -- The right fields for an explain, by the records that the table holds.
 abbrev pub ExplainAnswer : List ℕ → Question → List ℕ → Type 0

@@ -1,33 +1,16 @@
 // Whether the right answer to an explain stands at a place of a report, over the table that the closure left. Document 01, "Reasons" and "The job
-// and the report". Rests on moment, answer_ask, report, report_read, report_numbers, reason, reason_order and reason_test.
+// and the report". Rests on moment, pairs, answer_ask, report, report_read, report_numbers, reason, reason_order and reason_test.
 ghost use Prim.Native.Nat.{_+_, _≤_};
 ghost use lib.ListN.{length};
-ghost use Rattle.table.specs.Map.{recordsIn};
 ghost use Rattle.moment.specs.Posed.{Posed, Deciding};
-ghost use Rattle.judge_explain.specs.Right.{Came, Assuring, Explained, Reasoned, Known};
+ghost use Rattle.judge_explain.specs.Right.{Assuring, Explained, Reasoned, Known};
 use answer_ask::Passed;
 use moment::Question;
+use pairs::came;
 use reason::Answer;
 use reason_order::rises;
 use reason_test::serves;
 use report_read::Front;
-
-// The first k such that s and t are equal by records 1 to k, or a number above the records before the question.
-fn came(work: &[u16], q: Question) -> usize
-    requires { ⌜ Posed (now work) q ⌝ }
-    ensures { λ k. ⌜ Came (recordsIn (q .len) (now (work .entry))) (q .before) (q .s .0) (q .t .0) k ⌝ }
-{
-    let s = q.s;
-    let t = q.t;
-    if s.is(t) {
-        return 0;
-    }
-    let b = moment::met(work, s, t);
-    if b >= meaning::MOST_TAGS {
-        return q.before + 1;
-    }
-    moment::made(work, b)
-}
 
 // Whether so many bytes at a place are the numbers of the reason that is found here. Another reason may stand there where they are not.
 fn is_own(report: &[u8], at: usize, bytes: usize, work: &mut [u16], q: Question) -> bool
@@ -74,7 +57,7 @@ fn meets(
 
 // Whether so many bytes at a place are the numbers of a reason, where `first` is the first k. To find one costs no more than to test one,
 // so one that is found again is not tested.
-fn is_reason(
+pub fn is_reason(
     report: &[u8],
     at: usize,
     bytes: usize,

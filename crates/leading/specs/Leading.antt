@@ -8,12 +8,12 @@ use Rattle.meaning.specs.Limits.{mostTags}
 use Rattle.meaning.specs.Seats.{Found}
 use Rattle.table.specs.Map.{recordsIn, labelOf, savedOf, Within}
 use Rattle.table.specs.Past.{Past}
-use Rattle.table.specs.Places.{LABEL, Large, Part, SAVED, allOf, fromTo, spare}
+use Rattle.table.specs.Places.{LABEL, Large, Part, SAVED, SINCE, allOf, fromTo}
 use Rattle.moment.specs.Meeting.{leaderAt, Forested}
 
 -- The labels and all behind them; the seats are the last of these.
 abbrev pub seatingPart : Part
-seatingPart = fromTo (LABEL .at) spare
+seatingPart = fromTo (LABEL .at) (SINCE .at)
 
 -- The seat of the label of x.
 abbrev pub leaderIn : List ℕ → ℕ → ℕ

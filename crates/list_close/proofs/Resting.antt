@@ -15,7 +15,7 @@ use Rattle.table.specs.Map.{listOf, labelOf, gather, recordsIn, listIn, Within}
 use Rattle.table.proofs.Frame.{seen-within, within-trans, within-wider}
 use Rattle.table_labels.specs.Parts.{Fresh, Preserved, Restored}
 use Rattle.table.proofs.Kept.{records-same}
-use Rattle.table.specs.Places.{LABEL, LEFT, LIST, MARKS, RESULT, RIGHT, allOf, beforeMarks, closurePart, fromTo, spare}
+use Rattle.table.specs.Places.{LABEL, LEFT, LIST, MARKS, RESULT, RIGHT, allOf, beforeMarks, closurePart, fromTo, SINCE}
 use Rattle.table_labels.proofs.Views.{few-room, fresh-labels, fresh-total}
 use Rattle.list_close.specs.Closing.{Listed, Entailing, Saved, Holding}
 use Rattle.list_pass.specs.declared.Task.{Task}
@@ -83,7 +83,7 @@ module _ {N len n j j′ : ℕ} {w w′ w″ : List ℕ} {t : Task} {few : Bool}
 
   pub hold-done : {w‴ : List ℕ} {x y : ℕ} {a : Bool} → Preserved w″ w‴ → a ≡ eqb (labelOf w‴ x) (labelOf w‴ y) → Holding N len n x y w w‴ j′ a
   hold-done {w‴} {x} {y} p q = record {
-    kept = within-trans (within-wider (fromTo (LABEL .at) spare) (omega arith) (omega arith) rested-frame) (within-wider (fromTo (LABEL .at) spare) (omega arith) (omega arith) (p .frame));
+    kept = within-trans (within-wider (fromTo (LABEL .at) (SINCE .at)) (omega arith) (omega arith) rested-frame) (within-wider (fromTo (LABEL .at) (SINCE .at)) (omega arith) (omega arith) (p .frame));
     marks = seen-within MARKS (p .frame) (inl (omega arith)) ∙ seen-within MARKS rested-frame (inr (omega arith));
     saved = record {
       labels = rw (p .saved) (r .state .labels);

@@ -8,7 +8,7 @@ use mathlib.Core.List.{List, List·Memᴰ}
 use Rattle.meaning.specs.Following.{Follows, Those, Only}
 use Rattle.meaning.specs.Labels.{Labels, classes}
 use Rattle.table.specs.Map.{leftOf, rightOf, listOf, markOf, savedOf, recordsIn, listIn, Within}
-use Rattle.table.specs.Places.{LABEL, closurePart, fromTo, spare}
+use Rattle.table.specs.Places.{LABEL, closurePart, fromTo, SINCE}
 use Rattle.table_labels.specs.Parts.{Own}
 -- What the calls want of the list.
 pub use Rattle.list_pass.specs.Listed.{Listed}
@@ -27,7 +27,7 @@ pub record Saved (N len : ℕ) (P : ℕ → Type 0) (w : List ℕ) (joins : ℕ)
 
 -- Whether s and t are equal by exactly the records of the list; and the labels are saved, equal exactly where equality follows from the list.
 pub record Holding (N len n s t : ℕ) (w w′ : List ℕ) (joins : ℕ) (answer : Bool) : Type 0 where
-  pub kept : Within (fromTo (LABEL .at) spare) w w′
+  pub kept : Within (fromTo (LABEL .at) (SINCE .at)) w w′
   pub marks : markOf w′ ≡ markOf w
   pub saved : Saved N len (λ k. List·Memᴰ k (listIn n w)) w′ joins
   pub exact : (answer ≡ true) ↔ Follows (Only (recordsIn len w) (listIn n w)) s t

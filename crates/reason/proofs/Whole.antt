@@ -25,7 +25,7 @@ use Rattle.meaning.specs.Limits.{mostTags}
 use Rattle.table.specs.Map.{whenOf, firstOf, secondOf, listOf, listIn, recAt, recordsIn, joinAt, Loaded, Within}
 use Rattle.table.proofs.Frame.{length-gather, getD-gather, gather-in, within-refl, within-trans, within-wider}
 use Rattle.table.specs.Past.{Past, ageAfter}
-use Rattle.table.specs.Places.{LIST, Part, scratch, spare}
+use Rattle.table.specs.Places.{LIST, Part, SINCE, scratch}
 use Rattle.moment.specs.Meeting.{Met}
 use Rattle.moment.specs.Holding.{Holds, marked}
 use Rattle.reason_follow.specs.Tracing.{Together, Traced, Unmarked}
@@ -100,7 +100,7 @@ needed-at p q r h = rw (p, q, r) h
 used-at : {e e′ : ℕ → Join} {m m′ : ℕ → Bool} (n : ℕ) {k : ℕ} {L : List ℕ} → e ≡ e′ → m ≡ m′ → List·Memᴰ k (used e′ m′ n) ↔ List·Memᴰ k L → List·Memᴰ k (used e m n) ↔ List·Memᴰ k L
 used-at n p q h = rw (p, q) h
 
-wide : {p : Part} {w w′ : List ℕ} → LIST .at ≤ p .from → p .upto ≤ spare → Within p w w′ → Within scratch w w′
+wide : {p : Part} {w w′ : List ℕ} → LIST .at ≤ p .from → p .upto ≤ SINCE .at → Within p w w′ → Within scratch w w′
 wide l m f = within-wider scratch l m f
 
 module _ {N len n s t b : ℕ} {w : List ℕ} (J : Joining N len n s t b w) where

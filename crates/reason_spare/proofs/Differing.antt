@@ -18,7 +18,7 @@ use Rattle.meaning.proofs.Needed.{unlike-unspared}
 use Rattle.meaning.specs.Limits.{mostRecords, mostTags}
 use Rattle.table.specs.Map.{leftOf, rightOf, firstOf, secondOf, markOf, savedOf, listOf, listIn, joinAt, recordsIn, Within}
 use Rattle.table.proofs.Frame.{seen-at, seen-past, seen-within, gather-same, gather-in, within-refl, within-trans, within-wider, within-set}
-use Rattle.table.specs.Places.{LABEL, LIST, Large, MARKS, Part, SAVED, fromTo, frontPart, mostWaiting, scratch, spare, waitingAt}
+use Rattle.table.specs.Places.{LABEL, LIST, Large, MARKS, Part, SAVED, fromTo, frontPart, mostWaiting, SINCE, scratch, waitingAt}
 use Rattle.list_close.specs.Closing.{Listed, Holding, Telling}
 use Rattle.moment.specs.Holding.{marked}
 use Rattle.moment.proofs.Kept.{kept-left, kept-right, kept-first, kept-second, kept-records, kept-loaded}
@@ -109,7 +109,7 @@ list-behind {w} {w′} f x l = go (decLt x mostRecords)
 list-same : {e : ℕ} {w w′ : List ℕ} → Within (fromTo (LABEL .at) e) w w′ → (x : ℕ) → listOf w′ x ≡ listOf w x
 list-same f x = ap (λ (g : ℕ → ℕ). g x) (seen-within LIST f (inl (omega arith)))
 
-wide : {p : Part} {w w′ : List ℕ} → LIST .at ≤ p .from → p .upto ≤ spare → Within p w w′ → Within scratch w w′
+wide : {p : Part} {w w′ : List ℕ} → LIST .at ≤ p .from → p .upto ≤ SINCE .at → Within p w w′ → Within scratch w w′
 wide l m f = within-wider scratch l m f
 
 applied-two : (m : Bool) (z : ℕ) → T (m && not (eqb z 0)) → z ≢ 0

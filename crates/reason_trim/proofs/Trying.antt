@@ -13,7 +13,7 @@ use Rattle.meaning.proofs.Close.{more-of}
 use Rattle.meaning.specs.Limits.{mostRecords}
 use Rattle.table.specs.Map.{listOf, listIn, recordsIn, Within}
 use Rattle.table.proofs.Frame.{seen-within, gather-same, gather-in, in-gather, within-refl, within-trans, within-wider, within-set}
-use Rattle.table.specs.Places.{LABEL, LIST, Large, MARKS, allOf, beforeMarks, fromTo, scratch, spare, waitingAt}
+use Rattle.table.specs.Places.{LABEL, LIST, Large, MARKS, allOf, beforeMarks, fromTo, SINCE, scratch, waitingAt}
 use Rattle.list_close.specs.Closing.{Listed, Saved}
 use Rattle.list_close.proofs.Saving.{saved-more, saved-within}
 use Rattle.moment.proofs.Kept.{kept-records, kept-loaded}
@@ -294,7 +294,7 @@ pruning-start {n = n} {w = w} f = record {
   };
 }
 
-pub pruning-more : {N len s t n kept i j r : ℕ} {w w₁ w₂ : List ℕ} → Pruning N len s t w w₁ n kept i → Tried spare N len s t w₁ w₂ kept i j n r → Pruning N len s t w w₂ n r j
+pub pruning-more : {N len s t n kept i j r : ℕ} {w w₁ w₂ : List ℕ} → Pruning N len s t w w₁ n kept i → Tried (SINCE .at) N len s t w₁ w₂ kept i j n r → Pruning N len s t w w₂ n r j
 pruning-more p h = record { kept-in = within-trans (p .kept-in) (h .kept-in); fewer = λ k m. p .fewer k (h .fewer k m); trying = h .trying }
 
 pub pruning-end : {N len s t n kept : ℕ} {w w′ : List ℕ} → Pruning N len s t w w′ n kept n → Pruned N len s t w w′ n kept

@@ -4,7 +4,7 @@
 ghost use Prim.Native.Nat.{_+_, _≤_, _<_};
 ghost use lib.ListN.{length};
 ghost use Rattle.meaning.specs.Limits.{mostRecords};
-ghost use Rattle.table.specs.Places.{Large, MARKS, mostWaiting, spare};
+ghost use Rattle.table.specs.Places.{Large, MARKS, SINCE, mostWaiting};
 ghost use Rattle.list_close.specs.Closing.{Saved};
 ghost use Rattle.reason_trim.specs.Trimming.{Copied, Left, Trying, Tried, Pruned, Followed};
 use meaning::Tag;
@@ -67,7 +67,7 @@ fn try_each(work: &mut [u16], q: Trial, kept: usize, i: usize, m: usize, joins: 
 // Tries those from the i-th up to the m-th: all go at once if what is left without them makes s and t equal.
 fn try_block(work: &mut [u16], q: Trial, kept: usize, i: usize, m: usize) -> usize
     requires { ⌜ Trying (q .size) (q .len) (q .s .0) (q .t .0) (now work) kept i (q .n) × (i ≤ m) × (m ≤ q .n) ⌝ }
-    ensures { λ r. ⌜ Tried spare (q .size) (q .len) (q .s .0) (q .t .0) (now (work .entry)) (now (work .exit)) kept i m (q .n) r ⌝ }
+    ensures { λ r. ⌜ Tried (SINCE .at) (q .size) (q .len) (q .s .0) (q .t .0) (now (work .entry)) (now (work .exit)) kept i m (q .n) r ⌝ }
 {
     let rest = q.n - m;
     copy(work, reason_list::WAITING + m, kept, rest);

@@ -11,7 +11,7 @@ use lib.ListN.{length, getD}
 use Rattle.meaning.specs.Following.{Rec, eq, app}
 use Rattle.meaning.proofs.Reference.{Small}
 use Rattle.meaning.specs.Limits.{mostRecords, mostTags}
-use Rattle.job_field.specs.Items.{Head, Note, line, standsFor, tagsOfRecord, Item, noted, posed, accepted, recordsOf}
+use Rattle.job_field.specs.Items.{Head, Note, line, differ, standsFor, tagsOfRecord, Item, noted, posed, accepted, recordsOf}
 use Rattle.job_field.specs.Reading.{behindAt, reading}
 use Rattle.job_field.specs.Standing.{Below, Tagged, Stands, next, Job}
 use Rattle.job_field.proofs.Standing.{accepted-stands}
@@ -60,6 +60,7 @@ all-append N (r ∷ rs) qs a b = (a .0, all-append N rs qs (a .1) b)
 
 note-small : (N : ℕ) (n : Note) → Tagged N (noted n) → AllSmall N (standsFor n)
 note-small N (line r) t = (tagged-small N r t, tt)
+note-small N (differ a b) t = tt
 
 stands-small : (job : List ℕ) (N at : ℕ) (items : List Item) → Stands job N at items → AllSmall N (recordsOf items)
 stands-small job N at [] s = tt

@@ -93,6 +93,7 @@ fn note_found(l: Line, next: usize) -> Found
             place: application(a, b, c),
             next,
         },
+        Line::Differ(_, _) => no_record(true, next),
     }
 }
 

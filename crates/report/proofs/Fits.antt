@@ -10,7 +10,7 @@ use Rattle.meaning.specs.Following.{Rec}
 use Rattle.meaning.specs.Reasons.{Above, Reason}
 use Rattle.meaning.proofs.Laws.{reason-short}
 use Rattle.job_field.specs.Items.{Matter, Moment, Question, roomOf, Item, neededRoom}
-use Rattle.report.specs.Report.{numbers, Answers, led, because, apart, parted, joined, Totalled, total, Sound, totals, passed, answered}
+use Rattle.report.specs.Report.{numbers, Answers, led, because, apart, breached, intact, parted, joined, Totalled, total, Sound, totals, passed, answered}
 use Rattle.report.proofs.Bytes.{length-numbers, length-field}
 
 -- Rising numbers above m and up to R are at most R - m many.
@@ -25,6 +25,8 @@ pub answers-fits : {M : Matter} {b : Moment} {q : Question} {f : List ℕ} → A
 answers-fits (led {l = l} {m = m} h k) = omega (arith, length-field 131 (numbers (l ∷ m ∷ [])), length-numbers (l ∷ m ∷ []))
 answers-fits {M} {b} (because {L = L} r) = omega (arith, length-field 132 (numbers L), length-numbers L, reason-few r)
 answers-fits (apart h) = omega (arith, length-field 133 [])
+answers-fits {M} {b} (breached {k = k} {L = L} e r) = omega (arith, length-field 134 (numbers (k ∷ L)), length-numbers (k ∷ L), reason-few r)
+answers-fits (intact u) = omega (arith, length-field 135 [])
 answers-fits {M} {b} (parted {L = L} h d) = omega (arith, length-field 136 (numbers L), length-numbers L, d .full)
 answers-fits (joined h) = omega (arith, length-field 137 [])
 

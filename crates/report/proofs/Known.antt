@@ -5,7 +5,7 @@ use Prim.Native.Nat.{ℕ}
 use mathlib.Core.Path.{_≡_, refl}
 use mathlib.Core.List.{List}
 use Rattle.meaning.specs.Following.{Rec}
-use Rattle.job_field.specs.Items.{Head, Matter, Moment, Question, ask, explain, why, roomOf}
+use Rattle.job_field.specs.Items.{Head, Matter, Moment, Question, ask, explain, broken, why, roomOf}
 use Rattle.report.specs.Report.{Answers, led, because, apart, parted, joined, Known, tabled, afterRecords}
 use Rattle.report.specs.Fault.{Stands, stands}
 
@@ -39,4 +39,5 @@ module _ {M : Matter} {b : Moment} {H : Head} {rs : List Rec} {R : ℕ} (K : Kno
 pub room-known : (H : Head) (b : Moment) (H′ : Head) (R : ℕ) (q : Question) → H ≡ H′ → b .records ≡ R → roomOf H b q ≡ roomOf H′ (afterRecords R) q
 room-known H b H′ R (ask s t) e d = refl
 room-known H b H′ R (explain s t) e d = rw (e, d)
+room-known H b H′ R broken e d = rw (e, d)
 room-known H b H′ R (why s t) e d = rw e

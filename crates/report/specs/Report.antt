@@ -1,5 +1,5 @@
 -- Document 01, "The job and the report": the report has one field for each question in order, then the totals, and nothing else.
--- The run writes such a report and the recheck decides whether it has one.
+-- The run writes such a report and the recheck decides whether it has one. Document 02, No. 1: kinds 86 and 87.
 -- Assumes nothing.
 use Prim.Native.Nat.{ℕ, _+_, _/_, _%_}
 use mathlib.Core.Path.{_≡_}
@@ -9,7 +9,8 @@ use Rattle.meaning.specs.Following.{Rec, Follows, UpTo, Leader}
 use Rattle.meaning.specs.Looks.{Led}
 use Rattle.meaning.specs.Reasons.{Reason}
 use Rattle.meaning.specs.Totals.{Classes, Idles}
-use Rattle.job_field.specs.Items.{Head, Matter, Note, Moment, after, Question, ask, explain, why, Item, noted, posed}
+use Rattle.job_field.specs.Items.{Head, Matter, Note, Moment, after, Question, ask, explain, broken, why, Item, noted, posed}
+use Rattle.report.specs.Broken.{Earliest, Unbroken, PairReason}
 
 -- All numbers are two bytes, high byte first.
 unfoldable pub two : ℕ → List ℕ
@@ -27,12 +28,15 @@ unfoldable pub field : ℕ → List ℕ → List ℕ
 field kind body = front kind (length body) ++ body
 
 -- The right fields for a question at its moment: of the job's records, those before the question decide. 83 hex (131): leader of s,
--- leader of t. 84 (132): the reason's record numbers. 85 (133): none, the equality does not follow. Document 02, No. 7: "if the equality does
+-- leader of t. 84 (132): the reason's record numbers. 85 (133): none, the equality does not follow. 86 (134): the number of the earliest
+-- broken pair that must differ, and a reason why its tags are equal. 87 (135): none, where no pair is broken. Document 02, No. 7: "if the equality does
 -- not follow, report kind 88 (136) with the leader of every tag in order, N numbers; otherwise 89 (137) with no body".
 pub data Answers (M : Matter) (b : Moment) : Question → List ℕ → Type 0 where
   led : {s t l m : ℕ} → Leader (M .head .units) (UpTo (M .records) (b .records)) s l → Leader (M .head .units) (UpTo (M .records) (b .records)) t m → Answers M b (ask s t) (field 131 (numbers (l ∷ m ∷ [])))
   because : {s t : ℕ} {L : List ℕ} → Reason (M .head .size) (M .records) (b .records) s t L → Answers M b (explain s t) (field 132 (numbers L))
   apart : {s t : ℕ} → (Follows (UpTo (M .records) (b .records)) s t → ⊥) → Answers M b (explain s t) (field 133 [])
+  breached : {k : ℕ} {L : List ℕ} → Earliest (M .records) (b .records) (M .pairs) (b .differs) k → PairReason M b k L → Answers M b broken (field 134 (numbers (k ∷ L)))
+  intact : Unbroken (M .records) (b .records) (M .pairs) (b .differs) → Answers M b broken (field 135 [])
   parted : {s t : ℕ} {L : List ℕ} → (Follows (UpTo (M .records) (b .records)) s t → ⊥) → Led (M .head .size) (M .head .units) (UpTo (M .records) (b .records)) L → Answers M b (why s t) (field 136 (numbers L))
   joined : {s t : ℕ} → Follows (UpTo (M .records) (b .records)) s t → Answers M b (why s t) (field 137 [])
 
@@ -54,10 +58,10 @@ pub record Known (M : Matter) (b : Moment) (H : Head) (rs : List Rec) (R : ℕ) 
 
 -- A matter and a moment of which no more is known.
 abbrev pub tabled : Head → List Rec → Matter
-tabled H rs = record { head = H; records = rs }
+tabled H rs = record { head = H; records = rs; pairs = [] }
 
 abbrev pub afterRecords : ℕ → Moment
-afterRecords R = record { records = R; questions = 0 }
+afterRecords R = record { records = R; differs = 0; questions = 0 }
 
 -- The room with bytes laid into it at a place: every other byte is as it was.
 unfoldable pub laid : ℕ → List ℕ → List ℕ → List ℕ

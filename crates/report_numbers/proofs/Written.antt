@@ -6,7 +6,7 @@ use native.Mathlib.Numerals.{add-one}
 use mathlib.Core.Path.{_≡_, refl, sym, _∙_, ap}
 use mathlib.Core.List.{List, [], _∷_, _++_}
 use lib.ListN.{length}
-use Rattle.table.specs.Map.{gather}
+use Rattle.table.specs.Map.{listOf, listIn, gather}
 use Rattle.table.proofs.Frame.{length-gather}
 use Rattle.report.specs.Report.{two, numbers, front, field, laid}
 use Rattle.report.proofs.Bytes.{length-numbers, numbers-append}
@@ -33,3 +33,14 @@ field-laid kind f at n room x y fits h k =
     k
     ∙ laid-then at (at + 3) (front kind (2 * n)) (numbers (gather f n)) room x (omega arith) refl h
     ∙ ap (λ (m : ℕ). laid at (front kind m ++ numbers (gather f n)) room) (sym (length-list f n))
+
+-- The same with a number before those of the list.
+pub breach-laid : (at k n : ℕ) (work room x y z : List ℕ) → at + 5 + 2 * n ≤ length room
+    → x ≡ laid at (front 134 (2 + 2 * n)) room → y ≡ laid (at + 3) (two k) x → z ≡ laid (at + 5) (numbers (listIn n work)) y
+    → z ≡ laid at (field 134 (numbers (k ∷ listIn n work))) room
+unfolding field front two numbers
+breach-laid at k n work room x y z fits h i j =
+    let m : length (numbers (k ∷ listIn n work)) ≡ 2 + 2 * n = omega (arith, length-list (listOf work) n) in
+    j
+    ∙ laid-then at (at + 5) (front 134 (2 + 2 * n) ++ two k) (numbers (listIn n work)) room y (omega arith) (omega arith) (i ∙ laid-then at (at + 3) (front 134 (2 + 2 * n)) (two k) room x (omega arith) refl h)
+    ∙ ap (λ (s : ℕ). laid at (front 134 s ++ numbers (k ∷ listIn n work)) room) (sym m)

@@ -1,8 +1,9 @@
-// The numbers of a reason between a report and the table's list: written from there, read back, and compared. Document 01, "The job and the report".
-// Rests on report_write, report_read and table.
+// The numbers of a reason between a report and the table's list: written from there, read back, and compared. Document 01, "The job and the report"; document 02,
+// No. 1. Rests on report_write, report_read and table.
 ghost use mathlib.Core.Path.{_≡_};
 ghost use mathlib.Core.Logic.{_↔_};
 ghost use mathlib.Core.Bool.{true};
+ghost use mathlib.Core.List.{_∷_};
 ghost use Prim.Native.Nat.{ℕ, _+_, _*_, _≤_, _<_};
 ghost use lib.ListN.{length};
 ghost use Rattle.meaning.specs.Limits.{mostRecords};
@@ -13,6 +14,7 @@ ghost use Rattle.report_read.specs.Read.{Holds};
 ghost use Rattle.report_numbers.specs.Read.{Placed, ListRead};
 use meaning::RecordNo;
 use report::BECAUSE;
+use report::BREACHED;
 use report_read::number_in;
 use report_write::put_front;
 use report_write::put_number;
@@ -26,17 +28,35 @@ fn put_listed(room: &mut [u8], at: usize, work: &[u16], i: usize)
     put_number(room, at + 2 * i, r.number());
 }
 
+// The first numbers of the list, one behind the other.
+fn write_list(room: &mut [u8], at: usize, work: &[u16], count: usize)
+    requires { ⌜ Large (now work) × (count ≤ mostRecords) × (at + 2 * count ≤ length (now room)) ⌝ }
+    ensures { λ _. ⌜ now (room .exit) ≡ laid at (numbers (listIn count (now (work .entry)))) (now (room .entry)) ⌝ }
+{
+    let mut i = 0;
+    while i < count {
+        put_listed(room, at, work, i);
+        i += 1;
+    }
+}
+
 // The answer to an explain where the equality follows: the first numbers of the list.
 pub fn write_reason(room: &mut [u8], at: usize, work: &[u16], count: usize)
     requires { ⌜ Large (now work) × (count ≤ mostRecords) × (at + 3 + 2 * count ≤ length (now room)) ⌝ }
     ensures { λ _. ⌜ now (room .exit) ≡ laid at (field 132 (numbers (listIn count (now (work .entry))))) (now (room .entry)) ⌝ }
 {
     put_front(room, at, BECAUSE, (2 * count) as u16);
-    let mut i = 0;
-    while i < count {
-        put_listed(room, at + 3, work, i);
-        i += 1;
-    }
+    write_list(room, at + 3, work, count);
+}
+
+// The answer to a 06 where a pair is broken: its number, and the first numbers of the list.
+pub fn write_breach(room: &mut [u8], at: usize, number: usize, work: &[u16], count: usize)
+    requires { ⌜ Large (now work) × (count ≤ mostRecords) × (at + 5 + 2 * count ≤ length (now room)) × (number < 65536) ⌝ }
+    ensures { λ _. ⌜ now (room .exit) ≡ laid at (field 134 (numbers (number ∷ listIn count (now (work .entry))))) (now (room .entry)) ⌝ }
+{
+    put_front(room, at, BREACHED, (2 + 2 * count) as u16);
+    put_number(room, at + 3, number as u16);
+    write_list(room, at + 5, work, count);
 }
 
 // The number at a place of a reason whose numbers begin at `at` comes to its place in the list.

@@ -16,14 +16,16 @@ use Rattle.meaning.specs.Reasons.{Reason}
 use Rattle.meaning.specs.Totals.{Classes, Idle, Idles}
 use Rattle.meaning.proofs.Decide.{upTo-test, decUpTo, decLeast, decIdle, countIt}
 use Rattle.meaning.proofs.Laws.{reason-decided}
-use Rattle.meaning.proofs.Units.{leader-there}
 use Rattle.meaning.proofs.Looks.{led-there}
-use Rattle.job_field.specs.Items.{Matter, Moment, after, Question, ask, explain, why, Item, noted, posed}
-use Rattle.report.specs.Report.{two, numbers, front, field, Answers, led, because, apart, parted, joined, Totalled, total, Sound, totals, passed, answered}
+use Rattle.meaning.proofs.Units.{leader-there}
+use Rattle.job_field.specs.Items.{Matter, Moment, after, Question, ask, explain, broken, why, Item, noted, posed}
+use Rattle.report.specs.Report.{two, numbers, front, field, Answers, led, because, apart, breached, intact, parted, joined, Totalled, total, Sound, totals, passed, answered}
+use Rattle.report.specs.Broken.{pairNo, Earliest, Unbroken, PairReason}
+use Rattle.report.proofs.Broken.{earliest-or}
 use Rattle.report.specs.Fault.{Stands, stands, FaultAt, past, behind, wrong, closing, spare}
 use Rattle.report.proofs.Bytes.{two-of, length-numbers}
 use Rattle.report.proofs.Fault.{stands-in}
-use Rattle.report_read.proofs.Right.{Begins, ask-right, parted-right, joined-right, apart-right, reason-right, follows-right, totals-right}
+use Rattle.report_read.proofs.Right.{Begins, ask-right, apart-right, reason-right, follows-right, intact-right, broken-right, breach-right, parted-right, joined-right, totals-right}
 
 -- Whether the bytes begin with given ones.
 begins-decided : (f bs : List ℕ) → Dec (Begins bs f)
@@ -127,6 +129,27 @@ module _ (M : Matter) where
       go (yes f) z (yes l) = of (l .0) (l .1) (reason-decided N rs (b .records) s t (l .0))
       go (yes f) z (no l) = no (λ s. l (let r = follows-right f s in (r .0, r .2)))
 
+  broken-decided : (b : Moment) (bs : List ℕ) → Dec (Stands (Answers M b broken) bs)
+  broken-decided b bs = go (earliest-or rs (b .records) (M .pairs) (b .differs)) (begins-decided (field 135 []) bs) (list-decided 134 bs)
+    where
+      of : {k : ℕ} (L : List ℕ) → Earliest rs (b .records) (M .pairs) (b .differs) k → Begins bs (field 134 (numbers (k ∷ L))) → Dec (PairReason M b k L) → Dec (Stands (Answers M b broken) bs)
+      of {k} L e z (yes r) = yes (stands-in (field 134 (numbers (k ∷ L))) (z .0) (breached e r) (sym (z .1)))
+      of {k} L e z (no r) = no (λ s. r (let q = breach-right (k ∷ L) (z .0) (z .1) e s in let i : q .0 ≡ L = let j : k ∷ L ≡ k ∷ q .0 = q .1 in cc in rw i at (q .2)))
+
+      listed : {k : ℕ} (L : List ℕ) → Earliest rs (b .records) (M .pairs) (b .differs) k → Begins bs (field 134 (numbers L)) → Dec (Stands (Answers M b broken) bs)
+      listed {k} [] e z = no (λ s. let q = breach-right [] (z .0) (z .1) e s in let j : [] ≡ k ∷ q .0 = q .1 in let y : _≡_ {A = ℕ} 0 1 = cc in omega arith)
+      listed {k} (n ∷ L) e z = same (ℕ-discrete n k)
+        where
+          same : Dec (n ≡ k) → Dec (Stands (Answers M b broken) bs)
+          same (yes i) = of L e (rw i at z) (reason-decided N rs (b .records) (pairNo (M .pairs) k .first) (pairNo (M .pairs) k .second) L)
+          same (no i) = no (λ s. i (let q = breach-right (n ∷ L) (z .0) (z .1) e s in let j : n ∷ L ≡ k ∷ q .0 = q .1 in cc))
+
+      go : ((k : ℕ) × Earliest rs (b .records) (M .pairs) (b .differs) k) ⊎ Unbroken rs (b .records) (M .pairs) (b .differs) → Dec (Begins bs (field 135 [])) → Dec ((L : List ℕ) × Begins bs (field 134 (numbers L))) → Dec (Stands (Answers M b broken) bs)
+      go (inl e) z (yes l) = listed (l .0) (e .1) (l .1)
+      go (inl e) z (no l) = no (λ s. l (let r = broken-right (e .1) s in (e .0 ∷ r .0, r .2)))
+      go (inr u) (yes z) l = yes (stands-in (field 135 []) (z .0) (intact u) (sym (z .1)))
+      go (inr u) (no z) l = no (λ s. z (intact-right u s))
+
   why-decided : (b : Moment) (s t : ℕ) (bs : List ℕ) → Dec (Stands (Answers M b (why s t)) bs)
   why-decided b s t bs = go (decUpTo rs (b .records) s t) (led-there N (M .head .units) rs (b .records)) (begins-decided (field 137 []) bs)
     where
@@ -142,6 +165,7 @@ module _ (M : Matter) where
   question-decided : (b : Moment) (q : Question) (bs : List ℕ) → Dec (Stands (Answers M b q) bs)
   question-decided b (ask s t) bs = ask-decided b s t bs
   question-decided b (explain s t) bs = explain-decided b s t bs
+  question-decided b broken bs = broken-decided b bs
   question-decided b (why s t) bs = why-decided b s t bs
 
   totals-decided : (bs : List ℕ) → Dec (Stands (Totalled M) bs)

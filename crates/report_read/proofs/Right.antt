@@ -14,13 +14,15 @@ use Rattle.meaning.specs.Totals.{Classes, Idles}
 use Rattle.meaning.proofs.Laws.{classes-one, idles-one, reason-follows}
 use Rattle.meaning.proofs.Looks.{led-one}
 use Rattle.meaning.proofs.Units.{leader-one}
-use Rattle.job_field.specs.Items.{Matter, Moment, after, Question, ask, explain, why, Item, posed}
-use Rattle.report.specs.Report.{numbers, field, Answers, led, because, apart, parted, joined, Totalled, total, Sound, totals, answered}
+use Rattle.job_field.specs.Items.{Matter, Moment, after, Question, ask, explain, broken, why, Item, posed}
+use Rattle.report.specs.Report.{numbers, field, Answers, led, because, apart, breached, intact, parted, joined, Totalled, total, Sound, totals, answered}
+use Rattle.report.specs.Broken.{Earliest, Unbroken, PairReason}
 use Rattle.report.specs.Fault.{Stands, stands, FaultAt, behind, spare}
 use Rattle.report_read.specs.Read.{Holds, FrontAt, whole, none}
 use Rattle.report_read.specs.declared.Front.the-variants.{Field, Cut}
 use Rattle.report.proofs.Bytes.{numbers-one, length-numbers, field-one}
 use Rattle.report.proofs.Fault.{Fielded}
+use Rattle.report.proofs.Broken.{earliest-one, earliest-some}
 use Rattle.report_read.proofs.Read.{holds-rest, holds-one, field-body}
 
 -- What stands at the front of the bytes.
@@ -61,6 +63,23 @@ module _ {M : Matter} {b : Moment} {s t : ℕ} where
   joined-right f (stands (parted h d) rest) = absurd (h f)
   joined-right f (stands (joined h) rest) = (rest, refl)
 
+-- A 06: where no pair is broken one field is right, and where one is, a list that begins with its number.
+module _ {M : Matter} {b : Moment} where
+  pub intact-right : {bs : List ℕ} → Unbroken (M .records) (b .records) (M .pairs) (b .differs) → Stands (Answers M b broken) bs → Begins bs (field 135 [])
+  intact-right n (stands (breached e r) rest) = absurd (earliest-some e n)
+  intact-right n (stands (intact u) rest) = (rest, refl)
+
+  pub broken-right : {bs : List ℕ} {k : ℕ} → Earliest (M .records) (b .records) (M .pairs) (b .differs) k → Stands (Answers M b broken) bs → (L : List ℕ) × PairReason M b k L × Begins bs (field 134 (numbers (k ∷ L)))
+  broken-right {k = k} e (stands (breached {k = k′} {L = L} e′ r) rest) = let q : k′ ≡ k = earliest-one e′ e in rw (← q) (L, r, (rest, refl))
+  broken-right e (stands (intact u) rest) = absurd (earliest-some e u)
+
+  -- A list that stands there is the only one that can be right.
+  pub breach-right : {bs : List ℕ} {k : ℕ} (L rest : List ℕ) → bs ≡ field 134 (numbers L) ++ rest → Earliest (M .records) (b .records) (M .pairs) (b .differs) k → Stands (Answers M b broken) bs → (K : List ℕ) × (L ≡ k ∷ K) × PairReason M b k K
+  breach-right {k = k} L rest e h s =
+      let r = broken-right h s in
+      let z : numbers (k ∷ r .0) ≡ numbers L = field-one 134 134 (numbers (k ∷ r .0)) (numbers L) (r .2 .0) rest (sym (r .2 .1) ∙ e) .1 in
+      (r .0, sym (numbers-one (k ∷ r .0) L z), r .1)
+
 pub totals-right : {M : Matter} {bs : List ℕ} {c i : ℕ} → Classes (M .head .size) (UpTo (M .records) (length (M .records))) c → Idles (M .records) i → Stands (Totalled M) bs → Begins bs (field 143 (numbers (c ∷ i ∷ [])))
 totals-right {c = c} {i = i} h k (stands (total {c = c′} {i = i′} h′ k′) rest) =
     let p : c′ ≡ c = classes-one h′ h in
@@ -82,11 +101,11 @@ module _ (report : List ℕ) (at : ℕ) where
       let r = field-one k kind mine body (drop (at + length (field k mine)) report) (b .0) (sym h ∙ b .1) in
       (r .0, ap length (r .1))
 
-  -- The numbers of a whole field of kind 84 are read off its body.
-  pub listed-field : {n : ℕ} (L : List ℕ) → FrontAt report at (Field 132 n) → n ≡ 2 * length L → Holds report (at + 3) (numbers L) → Holds report at (field 132 (numbers L))
-  listed-field L (whole body h) e k =
-      let b : body ≡ numbers L = holds-one report (at + 3) body (numbers L) (e ∙ sym (length-numbers L)) (field-body report at 132 body h) k in
-      subst (λ (c : List ℕ). Holds report at (field 132 c)) b h
+  -- The numbers of a whole field are read off its body.
+  pub listed-field : {kind n : ℕ} (L : List ℕ) → FrontAt report at (Field kind n) → n ≡ 2 * length L → Holds report (at + 3) (numbers L) → Holds report at (field kind (numbers L))
+  listed-field L (whole {kind = kind} body h) e k =
+      let b : body ≡ numbers L = holds-one report (at + 3) body (numbers L) (e ∙ sym (length-numbers L)) (field-body report at kind body h) k in
+      subst (λ (c : List ℕ). Holds report at (field kind c)) b h
 
   module _ {M : Matter} {b : Moment} where
     -- A right field is passed, and the report goes on behind it.

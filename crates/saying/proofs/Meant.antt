@@ -12,12 +12,13 @@ use lib.ListN.{length, take, drop}
 use lib.Seq.{take-at, drop-at}
 use Rattle.meaning.specs.Following.{Follows, UpTo, Leader}
 use Rattle.meaning.specs.Reasons.{Reason}
-use Rattle.job_field.specs.Items.{Matter, Note, Moment, after, ask, explain, Item, noted, posed}
+use Rattle.job_field.specs.Items.{Matter, Note, Moment, after, ask, explain, broken, Item, noted, posed}
 use Rattle.job_field.specs.Reading.{byteAt, numberAt}
-use Rattle.report.specs.Report.{two, numbers, front, field, Answers, led, because, apart, Totalled, total, Sound, totals, passed, answered}
+use Rattle.report.specs.Report.{two, numbers, front, field, Answers, led, because, apart, breached, intact, Totalled, total, Sound, totals, passed, answered}
+use Rattle.report.specs.Broken.{Earliest, Unbroken, PairReason}
 use Rattle.report.proofs.Bytes.{length-field}
 use Rattle.text_line.specs.Line.{line, askLine}
-use Rattle.text_field.specs.Fields.{numbersIn, bodyOf, explainLine, totalsLine}
+use Rattle.text_field.specs.Fields.{numbersIn, partOf, bodyOf, explainLine, brokenLine, totalsLine}
 use Rattle.text.specs.Lines.{linesOf}
 use Rattle.saying.specs.Meant.{Meant}
 use Rattle.saying.specs.Meant as means
@@ -44,9 +45,23 @@ unfolding field front two
 behind-front k b = refl
 
 body-back : (k : ℕ) (b x : List ℕ) → bodyOf (field k b ++ x) ≡ b
-unfolding bodyOf
+unfolding partOf
 body-back k b x =
     ap (λ (n : ℕ). drop 3 (take (3 + n) (field k b ++ x))) (size-at k b x) ∙ ap (λ (l : List ℕ). drop 3 l) (take-at (field k b) x (3 + length b) (length-field k b)) ∙ behind-front k b
+
+head-at : (k u : ℕ) (ns x : List ℕ) → numberAt (field k (numbers (u ∷ ns)) ++ x) 3 ≡ u
+unfolding field front two numbers
+head-at k u ns x = omega arith
+
+behind-number : (k u : ℕ) (ns : List ℕ) → drop 5 (field k (numbers (u ∷ ns))) ≡ numbers ns
+unfolding field front two numbers
+behind-number k u ns = refl
+
+tail-back : (k u : ℕ) (ns x : List ℕ) → partOf 5 (field k (numbers (u ∷ ns)) ++ x) ≡ numbers ns
+unfolding partOf
+tail-back k u ns x =
+    let b : List ℕ = numbers (u ∷ ns) in
+    ap (λ (n : ℕ). drop 5 (take (3 + n) (field k b ++ x))) (size-at k b x) ∙ ap (λ (l : List ℕ). drop 5 l) (take-at (field k b) x (3 + length b) (length-field k b)) ∙ behind-number k u ns
 
 rest-back : (k : ℕ) (b x : List ℕ) → drop (3 + numberAt (field k b ++ x) 1) (field k b ++ x) ≡ x
 rest-back k b x = ap (λ (n : ℕ). drop (3 + n) (field k b ++ x)) (size-at k b x) ∙ drop-at (field k b) x (3 + length b) (length-field k b)
@@ -64,6 +79,21 @@ explain-lines : (s t k : ℕ) (b : List ℕ) (is : List Item) (x : List ℕ) →
 unfolding linesOf
 explain-lines s t k b is x =
     ap₂ (λ (p q : List ℕ). p ++ q) (ap₂ (explainLine s t) (kind-at k b x) (ap numbersIn (body-back k b x))) (ap (linesOf is) (rest-back k b x))
+
+breach-lines : (k : ℕ) (L : List ℕ) (is : List Item) (x : List ℕ) → linesOf (posed broken ∷ is) (field 134 (numbers (k ∷ L)) ++ x) ≡ brokenLine 134 k L ++ linesOf is x
+unfolding linesOf
+breach-lines k L is x =
+    let f : List ℕ = field 134 (numbers (k ∷ L)) ++ x in
+    let ns : numbersIn (partOf 5 f) ≡ L = ap numbersIn (tail-back 134 k L x) ∙ numbers-back L in
+    ap₂ (λ (p q : List ℕ). p ++ q)
+    (ap (λ (n : ℕ). brokenLine n (numberAt f 3) (numbersIn (partOf 5 f))) (kind-at 134 (numbers (k ∷ L)) x) ∙ ap₂ (brokenLine 134) (head-at 134 k L x) ns)
+    (ap (linesOf is) (rest-back 134 (numbers (k ∷ L)) x))
+
+intact-lines : (is : List Item) (x : List ℕ) → linesOf (posed broken ∷ is) (field 135 [] ++ x) ≡ brokenLine 135 (numberAt (field 135 [] ++ x) 3) (numbersIn (partOf 5 (field 135 [] ++ x))) ++ linesOf is x
+unfolding linesOf
+intact-lines is x =
+    let f : List ℕ = field 135 [] ++ x in
+    ap₂ (λ (p q : List ℕ). p ++ q) (ap (λ (n : ℕ). brokenLine n (numberAt f 3) (numbersIn (partOf 5 f))) (kind-at 135 [] x)) (ap (linesOf is) (rest-back 135 [] x))
 
 first-end : (u v : ℕ) → numberAt (field 143 (numbers (u ∷ v ∷ []))) 3 ≡ u
 unfolding field front two numbers
@@ -115,6 +145,24 @@ module _ {M : Matter} where
   unfolding numbersIn
   apart-meant {s = s} {t = t} {is = is} bs n h = meant-as (explain-lines s t 133 [] is bs) (none-line [] n h)
 
+  breach-line : {b : Moment} {k : ℕ} {L : List ℕ} {is : List Item} {x : List ℕ} → Earliest (M .records) (b .records) (M .pairs) (b .differs) k → PairReason M b k L → Meant M (after (posed broken) b) is x
+      → Meant M b (posed broken ∷ is) (brokenLine 134 k L ++ x)
+  unfolding brokenLine
+  breach-line {k = k} {L = L} e r h = means.breached {k = k} {L = L} e r h
+
+  intact-line : {b : Moment} {is : List Item} {x : List ℕ} (n : ℕ) (ns : List ℕ) → Unbroken (M .records) (b .records) (M .pairs) (b .differs) → Meant M (after (posed broken) b) is x
+      → Meant M b (posed broken ∷ is) (brokenLine 135 n ns ++ x)
+  unfolding brokenLine
+  intact-line n ns u h = means.intact u h
+
+  breach-meant : {b : Moment} {k : ℕ} {L : List ℕ} {is : List Item} (bs : List ℕ) → Earliest (M .records) (b .records) (M .pairs) (b .differs) k → PairReason M b k L
+      → Meant M (after (posed broken) b) is (linesOf is bs) → Meant M b (posed broken ∷ is) (linesOf (posed broken ∷ is) (field 134 (numbers (k ∷ L)) ++ bs))
+  breach-meant {k = k} {L = L} {is = is} bs e r h = meant-as (breach-lines k L is bs) (breach-line {k = k} {L = L} e r h)
+
+  intact-meant : {b : Moment} {is : List Item} (bs : List ℕ) → Unbroken (M .records) (b .records) (M .pairs) (b .differs) → Meant M (after (posed broken) b) is (linesOf is bs)
+      → Meant M b (posed broken ∷ is) (linesOf (posed broken ∷ is) (field 135 [] ++ bs))
+  intact-meant {is = is} bs u h = meant-as (intact-lines is bs) (intact-line _ _ u h)
+
   -- The lines of a sound report mean what document 01 says.
   pub sound-meant : {b : Moment} {is : List Item} {bs : List ℕ} → Sound M b is bs → Meant M b is (linesOf is bs)
   sound-meant (totals t) = totals-meant t
@@ -122,3 +170,5 @@ module _ {M : Matter} where
   sound-meant (answered (led h k) s) = meant-as (ask-lines _ _ _ _ _ _) (ask-meant h k (sound-meant s))
   sound-meant (answered (because r) s) = because-meant _ r (sound-meant s)
   sound-meant (answered (apart n) s) = apart-meant _ n (sound-meant s)
+  sound-meant (answered (breached e r) s) = breach-meant _ e r (sound-meant s)
+  sound-meant (answered (intact u) s) = intact-meant _ u (sound-meant s)

@@ -1,4 +1,4 @@
--- Document 01, "The program": what the lines that tagcheck writes for an accepted job mean, one case for each letter.
+-- Document 01, "The program": what the lines that tagcheck writes for an accepted job mean, one case for each letter. Document 02, No. 1: `C` and `K`.
 -- Assumes nothing.
 use Prim.Native.Nat.{ℕ}
 use mathlib.Core.Logic.{_≢_}
@@ -7,7 +7,8 @@ use lib.ListN.{length}
 use Rattle.meaning.specs.Following.{Follows, UpTo, Leader}
 use Rattle.meaning.specs.Reasons.{Reason}
 use Rattle.meaning.specs.Totals.{Classes, Idles}
-use Rattle.job_field.specs.Items.{Matter, Note, Moment, after, ask, explain, Item, noted, posed}
+use Rattle.job_field.specs.Items.{Matter, Note, Moment, after, ask, explain, broken, Item, noted, posed}
+use Rattle.report.specs.Broken.{Earliest, Unbroken, PairReason}
 use Rattle.text_line.specs.Line.{line}
 
 -- The text of the items from a moment on: of the job's records, those before a question decide.
@@ -26,5 +27,11 @@ pub data Meant (M : Matter) : Moment → List Item → List ℕ → Type 0 where
   -- `N s t`: explain, does not follow
   apart : {b : Moment} {s t : ℕ} {is : List Item} {x : List ℕ} → (Follows (UpTo (M .records) (b .records)) s t → ⊥)
       → Meant M (after (posed (explain s t)) b) is x → Meant M b (posed (explain s t) ∷ is) (line 78 (s ∷ t ∷ []) ++ x)
+  -- `C number k` and k record numbers: the earliest pair that is broken, and a reason why its tags are equal
+  breached : {b : Moment} {k : ℕ} {L : List ℕ} {is : List Item} {x : List ℕ} → Earliest (M .records) (b .records) (M .pairs) (b .differs) k → PairReason M b k L
+      → Meant M (after (posed broken) b) is x → Meant M b (posed broken ∷ is) (line 67 (k ∷ length L ∷ L) ++ x)
+  -- `K`: no pair is broken
+  intact : {b : Moment} {is : List Item} {x : List ℕ} → Unbroken (M .records) (b .records) (M .pairs) (b .differs)
+      → Meant M (after (posed broken) b) is x → Meant M b (posed broken ∷ is) (line 75 [] ++ x)
   -- `T classes idle`: at the end of the job
   totals : {b : Moment} {c i : ℕ} → Classes (M .head .size) (UpTo (M .records) (length (M .records))) c → Idles (M .records) i → Meant M b [] (line 84 (c ∷ i ∷ []))

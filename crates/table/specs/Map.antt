@@ -12,7 +12,7 @@ use Rattle.meaning.specs.Following.{Rec, eq, app}
 use Rattle.meaning.specs.Joins.{Join, by, cong}
 use Rattle.meaning.proofs.Reference.{Small}
 use Rattle.meaning.specs.Limits.{mostRecords, mostTags}
-use Rattle.table.specs.Places.{AGE, BUCKETS, CHAIN, EQUATION, FIRST, HEADS, LABEL, LEFT, LIST, Large, MARKS, NEXT, PARENT, Part, RESULT, RIGHT, Region, SAVED, SECOND, WAITS, WHEN, columnSize, moreAt, plain, useAt}
+use Rattle.table.specs.Places.{AGE, BUCKETS, CHAIN, EQUATION, FIRST, HEADS, LABEL, LEFT, LIST, Large, MARKS, NEXT, PARENT, Part, RESULT, RIGHT, Region, SAVED, SECOND, SINCE, WAITS, WHEN, columnSize, moreAt, plain, useAt}
 
 -- A region as a function from its own numbers.
 unfoldable pub seen : Region → List ℕ → ℕ → ℕ
@@ -67,6 +67,10 @@ markOf w = seen MARKS w
 -- By tag: a label that was saved.
 abbrev pub savedOf : List ℕ → ℕ → ℕ
 savedOf w = seen SAVED w
+
+-- By place of a pair that must differ: the number that is kept for it.
+abbrev pub sinceOf : List ℕ → ℕ → ℕ
+sinceOf w = seen SINCE w
 
 -- While all records are closed, from the list on. By tag: one more than the last place whose record has it for its first argument (for its second, where `second` says so), or 0; by place:
 -- the same of the places before it, for the same tag.

@@ -5,7 +5,7 @@ use Prim.Native.Nat.{ℕ, _+_, _-_, _*_, _≤_}
 use mathlib.Core.Bool.{Bool, cond}
 use mathlib.Core.List.{List}
 use lib.ListN.{length}
-use Rattle.meaning.specs.Limits.{mostTags, mostRecords, namedNumbers}
+use Rattle.meaning.specs.Limits.{mostTags, mostRecords, mostDiffers, namedNumbers}
 
 -- The table is as long as document 01 names it, or longer.
 abbrev pub Large : List ℕ → Type 0
@@ -82,15 +82,16 @@ headCount = 4093
 abbrev pub HEADS : Region
 HEADS = record { at = 26003; size = headCount; past = λ x. 0 }
 
--- By age: 1 where the join is taken into a reason. By tag: labels that a later closure begins with. Then places that nothing has.
+-- By age: 1 where the join is taken into a reason. By tag: labels that a later closure begins with.
 abbrev pub MARKS : Region
 MARKS = record { at = 30096; size = mostTags; past = λ x. 0 }
 
 abbrev pub SAVED : Region
 SAVED = record { at = 31096; size = mostTags; past = λ x. x }
 
-abbrev pub spare : ℕ
-spare = 32096
+-- By place of a pair that must differ: the record at which its tags became equal. Then places that nothing has.
+abbrev pub SINCE : Region
+SINCE = record { at = 32096; size = mostDiffers; past = λ x. 0 }
 
 -- While all records are closed other regions stand from the list on, with the labels where they are. By place: the last place before it with
 -- the same first tag, the same of the second, and the link of its chain, or for a place that waits `WAITS` more than the next that does.
@@ -162,7 +163,7 @@ behindJoins = fromTo (LIST .at) namedNumbers
 
 -- What a reason is looked for in; and of that the list and what its closure writes; all before the marks.
 abbrev pub scratch : Part
-scratch = fromTo (LIST .at) spare
+scratch = fromTo (LIST .at) (SINCE .at)
 
 abbrev pub listPart : Part
 listPart = fromTo (LIST .at) (MARKS .at)

@@ -18,7 +18,7 @@ use Rattle.meaning.proofs.Relabel.{into-miss, getD-any, start-classes}
 use Rattle.meaning.specs.Limits.{mostRecords, mostTags}
 use Rattle.table.specs.Map.{labelOf, savedOf, nextOf, headOf, seen, Within}
 use Rattle.table.proofs.Frame.{seen-at, seen-past, seen-in, seen-out, seen-within, within-trans, within-wider, within-set}
-use Rattle.table.specs.Places.{HEADS, LABEL, Large, NEXT, SAVED, allOf, chainPart, fromTo, frontOf, headCount, plain, spare}
+use Rattle.table.specs.Places.{HEADS, LABEL, Large, NEXT, SAVED, allOf, chainPart, fromTo, frontOf, headCount, plain, SINCE}
 use Rattle.table_labels.specs.Chain.{seekTo}
 use Rattle.table_labels.specs.Parts.{Own, reach, width, nextTo, nextIn, headIn, Fills, CountsUp, Raised, Lowered, Relabelled, Fresh, Preserved, Restored, Cleared}
 use Rattle.table_labels.proofs.Chain.{seek-same}
@@ -122,32 +122,32 @@ module _ (w w′ v : List ℕ) (long : Large w) where
       two = lent-within (HEADS .at) 61 w′ w″ u (omega (arith, one .size)) s′ e′
 
 -- The labels and what is saved of them stand in one part, 10,093 places apart.
-module _ (w w′ v : List ℕ) (long : Large w) (s : length v ≡ length (take (spare - LABEL .at) (drop (LABEL .at) w))) (e : w′ ≡ take (LABEL .at) w ++ (v ++ drop (spare - LABEL .at) (drop (LABEL .at) w))) where
-  part : Within (fromTo (LABEL .at) spare) w w′
-  part = lent-within (LABEL .at) (spare - LABEL .at) w w′ v (omega arith) s e
+module _ (w w′ v : List ℕ) (long : Large w) (s : length v ≡ length (take (SINCE .at - LABEL .at) (drop (LABEL .at) w))) (e : w′ ≡ take (LABEL .at) w ++ (v ++ drop (SINCE .at - LABEL .at) (drop (LABEL .at) w))) where
+  part : Within (fromTo (LABEL .at) (SINCE .at)) w w′
+  part = lent-within (LABEL .at) (SINCE .at - LABEL .at) w w′ v (omega arith) s e
 
-  new : (x : ℕ) → x < spare - LABEL .at → getD w′ (LABEL .at + x) 0 ≡ getD v x 0
-  new x l = rw e (part-at (LABEL .at) (spare - LABEL .at) w v (omega arith) (part-length (LABEL .at) (spare - LABEL .at) w w′ v (omega arith) s e) x l)
+  new : (x : ℕ) → x < SINCE .at - LABEL .at → getD w′ (LABEL .at + x) 0 ≡ getD v x 0
+  new x l = rw e (part-at (LABEL .at) (SINCE .at - LABEL .at) w v (omega arith) (part-length (LABEL .at) (SINCE .at - LABEL .at) w w′ v (omega arith) s e) x l)
 
-  old : (x : ℕ) → x < spare - LABEL .at → getD (take (spare - LABEL .at) (drop (LABEL .at) w)) x 0 ≡ getD w (LABEL .at + x) 0
-  old x l = getD-take (spare - LABEL .at) (drop (LABEL .at) w) x 0 l ∙ getD-drop (LABEL .at) w x 0
+  old : (x : ℕ) → x < SINCE .at - LABEL .at → getD (take (SINCE .at - LABEL .at) (drop (LABEL .at) w)) x 0 ≡ getD w (LABEL .at + x) 0
+  old x l = getD-take (SINCE .at - LABEL .at) (drop (LABEL .at) w) x 0 l ∙ getD-drop (LABEL .at) w x 0
 
-  whole : length (take (spare - LABEL .at) (drop (LABEL .at) w)) ≡ spare - LABEL .at
-  whole = length-take-le (spare - LABEL .at) (drop (LABEL .at) w) (rw length-drop (omega arith))
+  whole : length (take (SINCE .at - LABEL .at) (drop (LABEL .at) w)) ≡ SINCE .at - LABEL .at
+  whole = length-take-le (SINCE .at - LABEL .at) (drop (LABEL .at) w) (rw length-drop (omega arith))
 
   -- A number of the part that is as it was, at the place i of the table.
-  still : (i : ℕ) → LABEL .at ≤ i → i < spare → getD v (i - LABEL .at) 0 ≡ getD (take (spare - LABEL .at) (drop (LABEL .at) w)) (i - LABEL .at) 0 → getD w′ i 0 ≡ getD w i 0
+  still : (i : ℕ) → LABEL .at ≤ i → i < SINCE .at → getD v (i - LABEL .at) 0 ≡ getD (take (SINCE .at - LABEL .at) (drop (LABEL .at) w)) (i - LABEL .at) 0 → getD w′ i 0 ≡ getD w i 0
   still i l k q = let c : (LABEL .at) + (i - LABEL .at) ≡ i = omega arith in
       ap (λ (n : ℕ). getD w′ n 0) (sym c) ∙ new (i - LABEL .at) (omega arith) ∙ q ∙ old (i - LABEL .at) (omega arith) ∙ ap (λ (n : ℕ). getD w n 0) c
 
-  pub preserved : Raised (take (spare - LABEL .at) (drop (LABEL .at) w)) v (SAVED .at - LABEL .at) → Preserved w w′
+  pub preserved : Raised (take (SINCE .at - LABEL .at) (drop (LABEL .at) w)) v (SAVED .at - LABEL .at) → Preserved w w′
   preserved r = record { frame = record { size = part .size; same = λ i. same i }; saved = fun-ext (λ x. go x (decLt x mostTags)) }
     where
       inside : (i : ℕ) → i < SAVED .at → Dec (i < LABEL .at) → getD w′ i 0 ≡ getD w i 0
       inside i l (yes k) = part .same i (inl k)
       inside i l (no k) = still i (omega arith) (omega arith) (r .under (i - LABEL .at) (omega arith))
 
-      same : (i : ℕ) → (i < SAVED .at) ⊎ (spare ≤ i) → getD w′ i 0 ≡ getD w i 0
+      same : (i : ℕ) → (i < SAVED .at) ⊎ (SINCE .at ≤ i) → getD w′ i 0 ≡ getD w i 0
       same i (inl l) = inside i l (decLt i (LABEL .at))
       same i (inr l) = part .same i (inr l)
 
@@ -157,16 +157,16 @@ module _ (w w′ v : List ℕ) (long : Large w) (s : length v ≡ length (take (
           seen-at SAVED w′ x l ∙ ap (λ (n : ℕ). getD w′ n 0) c ∙ new (SAVED .at - LABEL .at + x) (omega arith) ∙ r .above x (rw whole (omega arith)) ∙ old x (omega arith) ∙ sym (seen-at LABEL w x l)
       go x (no l) = seen-past SAVED w′ x (omega arith) ∙ sym (seen-past LABEL w x (omega arith))
 
-  pub restored : Lowered (take (spare - LABEL .at) (drop (LABEL .at) w)) v (SAVED .at - LABEL .at) → Restored w w′
+  pub restored : Lowered (take (SINCE .at - LABEL .at) (drop (LABEL .at) w)) v (SAVED .at - LABEL .at) → Restored w w′
   restored r = record { frame = record { size = part .size; same = λ i. same i }; labels = fun-ext (λ x. go x (decLt x mostTags)) }
     where
-      behind : (i : ℕ) → NEXT .at ≤ i → Dec (i < spare) → getD w′ i 0 ≡ getD w i 0
+      behind : (i : ℕ) → NEXT .at ≤ i → Dec (i < SINCE .at) → getD w′ i 0 ≡ getD w i 0
       behind i l (yes k) = still i (omega arith) k (r .above (i - LABEL .at) (rw whole (omega arith)))
       behind i l (no k) = part .same i (inr (omega arith))
 
       same : (i : ℕ) → (i < LABEL .at) ⊎ (NEXT .at ≤ i) → getD w′ i 0 ≡ getD w i 0
       same i (inl l) = part .same i (inl l)
-      same i (inr l) = behind i l (decLt i spare)
+      same i (inr l) = behind i l (decLt i (SINCE .at))
 
       go : (x : ℕ) → Dec (x < mostTags) → labelOf w′ x ≡ savedOf w x
       go x (yes l) =

@@ -18,7 +18,7 @@ use table::LABEL;
 use table::MARKS;
 use table::NEXT;
 use table::SAVED;
-use table::SPARE;
+use table::SINCE;
 
 // The number of buckets. A list of at most FEW records gets so few that clearing them costs less than closing it.
 pub const BUCKETS: usize = 4093;
@@ -125,7 +125,7 @@ pub fn save(work: &mut [u16])
     requires { ⌜ Large (now work) ⌝ }
     ensures { λ _. ⌜ Preserved (now (work .entry)) (now (work .exit)) ⌝ }
 {
-    raise(&mut work[LABEL..SPARE], GAP);
+    raise(&mut work[LABEL..SINCE], GAP);
 }
 
 // The labels are those that were saved.
@@ -133,7 +133,7 @@ pub fn restore(work: &mut [u16])
     requires { ⌜ Large (now work) ⌝ }
     ensures { λ _. ⌜ Restored (now (work .entry)) (now (work .exit)) ⌝ }
 {
-    lower(&mut work[LABEL..SPARE], GAP);
+    lower(&mut work[LABEL..SINCE], GAP);
 }
 
 // No place stands in a chain.

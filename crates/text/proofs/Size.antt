@@ -11,13 +11,13 @@ use lib.Dec.{eqb}
 use lib.ListN.{length, getD, take, drop, length-append, length-take, length-drop, List·getD-eq-default}
 use lib.Seq.{getD-drop, getD-take}
 use Rattle.meaning.specs.Limits.{mostTags}
-use Rattle.job_field.specs.Items.{Head, Question, ask, explain, why, tagsOfQuestion, Item, noted, posed, accepted, questionsOf}
+use Rattle.job_field.specs.Items.{Head, Question, ask, explain, broken, why, tagsOfQuestion, Item, noted, posed, accepted, questionsOf}
 use Rattle.job_field.specs.Reading.{byteAt, numberAt, behindAt, reading}
 use Rattle.job_field.specs.Standing.{Below, Stands, ends, next}
 use Rattle.job_field.proofs.Standing.{accepted-stands}
 use Rattle.text_line.specs.Digits.{digits}
 use Rattle.text_line.specs.Line.{parted, line, askLine}
-use Rattle.text_field.specs.Fields.{numbersIn, bodyOf, explainLine, whyLine, questionLine, totalsLine}
+use Rattle.text_field.specs.Fields.{numbersIn, partOf, bodyOf, explainLine, brokenLine, whyLine, questionLine, totalsLine}
 use Rattle.text.specs.Lines.{linesOf, refusalLine}
 use Rattle.text_line.proofs.Digits.{digits-one, digits-more}
 use Rattle.text_field.proofs.Parts.{length-numbers}
@@ -94,13 +94,13 @@ module _ (report : List ℕ) (b : Bytes report) where
   number-small : (at : ℕ) → numberAt report at < 65536
   number-small at = omega (arith, b at, b (at + 1))
 
-  length-body : length (bodyOf report) ≡ min (3 + numberAt report 1) (length report) - 3
-  unfolding bodyOf
-  length-body = length-drop 3 (take (3 + numberAt report 1) report) ∙ ap (λ (n : ℕ). n - 3) (length-take (3 + numberAt report 1) report)
+  length-part : (at : ℕ) → length (partOf at report) ≡ min (3 + numberAt report 1) (length report) - at
+  unfolding partOf
+  length-part at = length-drop at (take (3 + numberAt report 1) report) ∙ ap (λ (n : ℕ). n - at) (length-take (3 + numberAt report 1) report)
 
-  body-bytes : Bytes (bodyOf report)
-  unfolding bodyOf
-  body-bytes = bytes-drop 3 (take (3 + numberAt report 1) report) (bytes-take (3 + numberAt report 1) report b)
+  part-bytes : (at : ℕ) → Bytes (partOf at report)
+  unfolding partOf
+  part-bytes at = bytes-drop at (take (3 + numberAt report 1) report) (bytes-take (3 + numberAt report 1) report b)
 
   explain-size : (s t kind : ℕ) → s < 65536 → t < 65536 → length (explainLine s t kind (numbersIn (bodyOf report))) ≤ 20 + 3 * length (bodyOf report)
   unfolding explainLine
@@ -109,9 +109,21 @@ module _ (report : List ℕ) (b : Bytes report) where
       go : (reasoned : Bool) → length (cond reasoned (line 69 (s ∷ t ∷ length (numbersIn (bodyOf report)) ∷ numbersIn (bodyOf report))) (line 78 (s ∷ t ∷ []))) ≤ 20 + 3 * length (bodyOf report)
       go true =
           let ns : List ℕ = numbersIn (bodyOf report) in
-          let many : length ns < 65536 = omega (arith, length-numbers (bodyOf report), length-body, number-small 1) in
-          omega (arith, line-size 69 (s ∷ t ∷ length ns ∷ ns), parted-more s (t ∷ length ns ∷ ns), parted-more t (length ns ∷ ns), parted-more (length ns) ns, digits-five s h, digits-five t k, digits-five (length ns) many, numbers-size (bodyOf report) body-bytes)
+          let many : length ns < 65536 = omega (arith, length-numbers (bodyOf report), length-part 3, number-small 1) in
+          omega (arith, line-size 69 (s ∷ t ∷ length ns ∷ ns), parted-more s (t ∷ length ns ∷ ns), parted-more t (length ns ∷ ns), parted-more (length ns) ns, digits-five s h, digits-five t k, digits-five (length ns) many, numbers-size (bodyOf report) (part-bytes 3))
       go false = omega (arith, pair-size 78 s t h k)
+
+  broken-size : (kind : ℕ) → length (brokenLine kind (numberAt report 3) (numbersIn (partOf 5 report))) ≤ 14 + 3 * length (bodyOf report)
+  unfolding brokenLine
+  broken-size kind = go (eqb kind 134)
+    where
+      go : (breached : Bool) → length (cond breached (line 67 (numberAt report 3 ∷ length (numbersIn (partOf 5 report)) ∷ numbersIn (partOf 5 report))) (line 75 [])) ≤ 14 + 3 * length (bodyOf report)
+      go true =
+          let k : ℕ = numberAt report 3 in
+          let ns : List ℕ = numbersIn (partOf 5 report) in
+          let many : length ns < 65536 = omega (arith, length-numbers (partOf 5 report), length-part 5, number-small 1) in
+          omega (arith, line-size 67 (k ∷ length ns ∷ ns), parted-more k (length ns ∷ ns), parted-more (length ns) ns, digits-five k (number-small 3), digits-five (length ns) many, numbers-size (partOf 5 report) (part-bytes 5), length-part 3, length-part 5)
+      go false = omega (arith, line-size 75 [], parted-none)
 
   why-size : (s t kind : ℕ) → s < 65536 → t < 65536 → length (whyLine s t kind (numbersIn (bodyOf report))) ≤ 20 + 3 * length (bodyOf report)
   unfolding whyLine
@@ -127,6 +139,7 @@ module _ (report : List ℕ) (b : Bytes report) where
 question-size : (report : List ℕ) → Bytes report → (N : ℕ) (q : Question) → N ≤ mostTags → Below N (tagsOfQuestion q) → length (questionLine q report) ≤ 26 + 3 * length (bodyOf report)
 question-size report b N (ask x y) small t = omega (arith, ask-size x y (numberAt report 3) (numberAt report 5) (omega (arith, t .0)) (omega (arith, t .1 .0)) (number-small report b 3) (number-small report b 5))
 question-size report b N (explain x y) small t = omega (arith, explain-size report b x y (byteAt report 0) (omega (arith, t .0)) (omega (arith, t .1 .0)))
+question-size report b N broken small t = omega (arith, broken-size report b (byteAt report 0))
 question-size report b N (why x y) small t = omega (arith, why-size report b x y (byteAt report 0) (omega (arith, t .0)) (omega (arith, t .1 .0)))
 
 -- The lines of the items that stand in a job: three bytes for each byte of the report, and 26 for each question.
@@ -137,7 +150,7 @@ lines-size job N at items small (ends e l) report b = omega (arith, pair-size 84
 lines-size job N at items small (next {i = noted n} {is = is} e t l s) report b = lines-size job N (behindAt job at) is small s report b
 lines-size job N at items small (next {i = posed q} {is = is} e t l s) report b =
     let w : ℕ = 3 + numberAt report 1 in
-    omega (arith, length-append (questionLine q report) (linesOf is (drop w report)), length-drop w report, length-body report b, question-size report b N q small t, lines-size job N (behindAt job at) is small s (drop w report) (bytes-drop w report b))
+    omega (arith, length-append (questionLine q report) (linesOf is (drop w report)), length-drop w report, length-part report b 3, question-size report b N q small t, lines-size job N (behindAt job at) is small s (drop w report) (bytes-drop w report b))
 
 -- A report of at most 60,000 bytes has a text of at most 206,014.
 pub report-size : (job : List ℕ) (H : Head) (items : List Item) → reading job ≡ accepted H items → (report : List ℕ) → Bytes report → length report ≤ 60000 → length (linesOf items report) ≤ 206014

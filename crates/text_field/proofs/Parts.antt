@@ -11,7 +11,7 @@ use Rattle.job_field.specs.Reading.{numberAt}
 use borrow.Author.Tests.{eq-eqb, ne-eqb}
 use Rattle.text_line.specs.Line.{parted, line, askLine}
 use Rattle.text_line.proofs.Parted.{parted-append}
-use Rattle.text_field.specs.Fields.{numbersIn, bodyOf, explainLine, whyLine}
+use Rattle.text_field.specs.Fields.{numbersIn, partOf, explainLine, brokenLine, whyLine}
 
 pub length-numbers : (bytes : List ℕ) → length (numbersIn bytes) ≡ length bytes / 2
 unfolding numbersIn
@@ -38,26 +38,26 @@ numbers-none report p stop h l = short (slice p stop report) (rw (length-slice p
     short (a ∷ []) h = refl
     short (a ∷ b ∷ bytes) h = absurd (omega arith)
 
--- The part of the report that is the first field's body, as far as it is there.
-pub body-slice : (report : List ℕ) (from stop : ℕ) → stop ≡ min (3 + numberAt report 1) (length report) → from ≡ min 3 stop → slice from stop report ≡ bodyOf report
-unfolding bodyOf
-body-slice report from stop e f = go (decLe 3 (length report)) (decLe (3 + numberAt report 1) (length report))
+-- A part of the report that is one of the first field, as far as it is there.
+pub part-slice : (report : List ℕ) (at from stop : ℕ) → stop ≡ min (3 + numberAt report 1) (length report) → from ≡ min at stop → slice from stop report ≡ partOf at report
+unfolding partOf
+part-slice report at from stop e f = go (decLe at stop) (decLe (3 + numberAt report 1) (length report))
   where
-    go : Dec (3 ≤ length report) → Dec (3 + numberAt report 1 ≤ length report) → slice from stop report ≡ drop 3 (take (3 + numberAt report 1) report)
+    go : Dec (at ≤ stop) → Dec (3 + numberAt report 1 ≤ length report) → slice from stop report ≡ drop at (take (3 + numberAt report 1) report)
     go (yes l) (yes k) =
-        let three : from ≡ 3 = omega arith in
+        let first : from ≡ at = omega arith in
         let size : stop ≡ 3 + numberAt report 1 = omega arith in
-        rw (three, size)
+        rw (first, size)
     go (yes l) (no k) =
-        let three : from ≡ 3 = omega arith in
-        rw (three, take-all stop report (omega arith), take-all (3 + numberAt report 1) report (omega arith))
+        let first : from ≡ at = omega arith in
+        rw (first, take-all stop report (omega arith), take-all (3 + numberAt report 1) report (omega arith))
     go (no l) k =
         let same : from ≡ stop = omega arith in
-        let few : length (take (3 + numberAt report 1) report) ≤ 3 = rw (length-take (3 + numberAt report 1) report) (omega arith) in
+        let few : length (take (3 + numberAt report 1) report) ≤ at = rw (length-take (3 + numberAt report 1) report) (omega arith) in
         rw (same, slice-empty stop report, drop-of-length-le (take (3 + numberAt report 1) report) few)
 
-pub length-body : (report : List ℕ) (from stop : ℕ) → stop ≡ min (3 + numberAt report 1) (length report) → from ≡ min 3 stop → (stop - from) / 2 ≡ length (numbersIn (bodyOf report))
-length-body report from stop e f = sym (length-numbers (bodyOf report) ∙ ap (λ (n : ℕ). n / 2) (ap length (sym (body-slice report from stop e f)) ∙ length-slice from stop report (omega arith)))
+pub length-part : (report : List ℕ) (at from stop : ℕ) → stop ≡ min (3 + numberAt report 1) (length report) → from ≡ min at stop → (stop - from) / 2 ≡ length (numbersIn (partOf at report))
+length-part report at from stop e f = sym (length-numbers (partOf at report) ∙ ap (λ (n : ℕ). n / 2) (ap length (sym (part-slice report at from stop e f)) ∙ length-slice from stop report (omega arith)))
 
 pub explainLine-reason : (s t kind : ℕ) (ns : List ℕ) → kind ≡ 132 → line 69 (s ∷ t ∷ length ns ∷ ns) ≡ explainLine s t kind ns
 unfolding explainLine
@@ -66,6 +66,14 @@ explainLine-reason s t kind ns e = rw (eq-eqb kind 132 e)
 pub explainLine-none : (s t kind : ℕ) (ns : List ℕ) → (kind ≡ 132 → ⊥) → line 78 (s ∷ t ∷ []) ≡ explainLine s t kind ns
 unfolding explainLine
 explainLine-none s t kind ns e = rw (ne-eqb kind 132 e)
+
+pub brokenLine-breach : (kind number : ℕ) (ns : List ℕ) → kind ≡ 134 → line 67 (number ∷ length ns ∷ ns) ≡ brokenLine kind number ns
+unfolding brokenLine
+brokenLine-breach kind number ns e = rw (eq-eqb kind 134 e)
+
+pub brokenLine-none : (kind number : ℕ) (ns : List ℕ) → (kind ≡ 134 → ⊥) → line 75 [] ≡ brokenLine kind number ns
+unfolding brokenLine
+brokenLine-none kind number ns e = rw (ne-eqb kind 134 e)
 
 pub whyLine-leaders : (s t kind : ℕ) (ns : List ℕ) → kind ≡ 136 → line 87 (s ∷ t ∷ ns) ≡ whyLine s t kind ns
 unfolding whyLine

@@ -1,12 +1,12 @@
 -- Document 01, "The program": tagcheck writes one line an item, fields parted by one space, decimal. The line of one item by the report from the
--- item's field on, byte by byte.
+-- item's field on, byte by byte. Document 02, No. 1: the lines `C` and `K`.
 -- Assumes nothing.
 use Prim.Native.Nat.{ℕ, _+_, _*_}
 use mathlib.Core.Bool.{cond}
 use mathlib.Core.List.{List, [], _∷_}
 use lib.Dec.{eqb}
 use lib.ListN.{length, take, drop}
-use Rattle.job_field.specs.Items.{Question, ask, explain, why, Item, noted, posed}
+use Rattle.job_field.specs.Items.{Question, ask, explain, broken, why, Item, noted, posed}
 use Rattle.job_field.specs.Reading.{Field, bad, header, item, end, byteAt, numberAt}
 use Rattle.text_line.specs.Line.{line, askLine}
 
@@ -16,13 +16,21 @@ numbersIn [] = []
 numbersIn (high ∷ []) = []
 numbersIn (high ∷ low ∷ bytes) = (high * 256 + low) ∷ numbersIn bytes
 
--- A field is one kind byte, a two-byte length, then the body. A byte that is not there counts as 0.
-unfoldable pub bodyOf : List ℕ → List ℕ
-bodyOf report = drop 3 (take (3 + numberAt report 1) report)
+-- A field is one kind byte, a two-byte length, then the body. A byte that is not there counts as 0. The first field of the report from a
+-- byte of it on, and its body.
+unfoldable pub partOf : ℕ → List ℕ → List ℕ
+partOf from report = drop from (take (3 + numberAt report 1) report)
+
+abbrev pub bodyOf : List ℕ → List ℕ
+bodyOf report = partOf 3 report
 
 -- `E s t k` and k record numbers, for a field of kind 84 hex (132); `N s t` (explain, does not follow).
 unfoldable pub explainLine : ℕ → ℕ → ℕ → List ℕ → List ℕ
 explainLine s t kind ns = cond (eqb kind 132) (line 69 (s ∷ t ∷ length ns ∷ ns)) (line 78 (s ∷ t ∷ []))
+
+-- `C number k` and the k record numbers, for a field of kind 86 hex (134); `K`.
+unfoldable pub brokenLine : ℕ → ℕ → List ℕ → List ℕ
+brokenLine kind number ns = cond (eqb kind 134) (line 67 (number ∷ length ns ∷ ns)) (line 75 [])
 
 -- Document 02, No. 7: `W s t` and the N leaders, for a field of kind 88 hex (136); `Y s t` (the equality follows).
 unfoldable pub whyLine : ℕ → ℕ → ℕ → List ℕ → List ℕ
@@ -32,6 +40,7 @@ whyLine s t kind ns = cond (eqb kind 136) (line 87 (s ∷ t ∷ ns)) (line 89 (s
 abbrev pub questionLine : Question → List ℕ → List ℕ
 questionLine (ask s t) report = askLine s t (numberAt report 3) (numberAt report 5)
 questionLine (explain s t) report = explainLine s t (byteAt report 0) (numbersIn (bodyOf report))
+questionLine broken report = brokenLine (byteAt report 0) (numberAt report 3) (numbersIn (partOf 5 report))
 questionLine (why s t) report = whyLine s t (byteAt report 0) (numbersIn (bodyOf report))
 
 -- The line of an item: a note has none.

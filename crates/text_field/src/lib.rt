@@ -1,7 +1,7 @@
 // What one field of a job adds to the text that tagcheck writes: the line of a question by its field of the report, and of the totals. Document 01,
-// "The program". Rests on meaning, job_field and text_line.
+// "The program"; document 02, No. 1. Rests on meaning, job_field and text_line.
 ghost use mathlib.Core.Path.{_≡_};
-ghost use mathlib.Core.List.{_∷_};
+ghost use mathlib.Core.List.{[], _∷_};
 ghost use Prim.Native.Nat.{_+_, _≤_, min};
 ghost use lib.ListN.{length};
 ghost use lib.Seq.{slice};
@@ -9,7 +9,7 @@ ghost use Rattle.job_field.specs.Reading.{byteAt, numberAt};
 ghost use Rattle.job_field.specs.Answer.{questionSaid, said};
 ghost use Rattle.text_line.specs.Line.{parted, line};
 ghost use Rattle.text_line.specs.Put.{Put};
-ghost use Rattle.text_field.specs.Fields.{numbersIn, bodyOf, explainLine, whyLine, questionLine, totalsLine, textAt, widthAt};
+ghost use Rattle.text_field.specs.Fields.{numbersIn, partOf, bodyOf, explainLine, brokenLine, whyLine, questionLine, totalsLine, textAt, widthAt};
 use job_field::Field;
 use job_field::Query;
 use meaning::Tag;
@@ -54,11 +54,11 @@ fn width(report: &[u8]) -> usize
     }
 }
 
-// Where the first field's body begins, at the third byte or where the report stops before it.
-fn body_start(stop: usize) -> usize
-    ensures { λ r. ⌜ r ≡ min 3 stop ⌝ }
+// Where a part of the first field begins, at a byte of it or where the report stops before that.
+fn part_start(at: usize, stop: usize) -> usize
+    ensures { λ r. ⌜ r ≡ min at stop ⌝ }
 {
-    if stop < 3 { stop } else { 3 }
+    if stop < at { stop } else { at }
 }
 
 // The numbers of a part of the report, each with the space before it.
@@ -84,7 +84,7 @@ fn put_reason(report: &[u8], s: usize, t: usize, out: &mut [u8], at: usize) -> u
       ⌜ Put (line 69 (s ∷ t ∷ length ns ∷ ns)) (now (out .entry)) at (now (out .exit)) r ⌝ }
 {
     let stop = width(report);
-    let from = body_start(stop);
+    let from = part_start(3, stop);
     let next = open_line(out, at, b'E', s, t);
     let third = put_parted(out, next, (stop - from) / 2);
     let last = put_numbers(report, from, stop, out, third);
@@ -101,6 +101,41 @@ fn put_explain(report: &[u8], s: usize, t: usize, out: &mut [u8], at: usize) -> 
         put_reason(report, s, t, out, at)
     } else {
         put_pair(out, at, b'N', s, t)
+    }
+}
+
+// The line of a broken pair: its number, and the numbers of the body behind that, as far as they are there.
+fn put_breach(report: &[u8], out: &mut [u8], at: usize) -> usize
+    ensures { λ r. do
+      let ns = numbersIn (partOf 5 (now (report .entry)))
+      ⌜ Put (line 67 (numberAt (now (report .entry)) 3 ∷ length ns ∷ ns)) (now (out .entry)) at (now (out .exit)) r ⌝ }
+{
+    let stop = width(report);
+    let from = part_start(5, stop);
+    let number = wide(number(report, 3));
+    let next = open_line(out, at, b'C', number, (stop - from) / 2);
+    let last = put_numbers(report, from, stop, out, next);
+    put(out, last, b'\n')
+}
+
+// The line that says that no pair is broken.
+fn put_intact(out: &mut [u8], at: usize) -> usize
+    ensures { λ r. ⌜ Put (line 75 []) (now (out .entry)) at (now (out .exit)) r ⌝ }
+{
+    let next = put(out, at, b'K');
+    put(out, next, b'\n')
+}
+
+// The line of a 06: a broken pair where the report's first field is of kind 86 hex.
+fn put_broken(report: &[u8], out: &mut [u8], at: usize) -> usize
+    ensures { λ r. do
+      let ns = numbersIn (partOf 5 (now (report .entry)))
+      ⌜ Put (brokenLine (byteAt (now (report .entry)) 0) (numberAt (now (report .entry)) 3) ns) (now (out .entry)) at (now (out .exit)) r ⌝ }
+{
+    if byte(report, 0) == 0x86 {
+        put_breach(report, out, at)
+    } else {
+        put_intact(out, at)
     }
 }
 
@@ -165,6 +200,7 @@ fn put_question(q: Query, report: &[u8], out: &mut [u8], at: usize) -> usize
             wide(number(report, 5)),
         ),
         Query::Explain(s, t) => put_explain(report, shown(s), shown(t), out, at),
+        Query::Broken => put_broken(report, out, at),
         Query::Why(s, t) => put_why(report, shown(s), shown(t), out, at),
     }
 }

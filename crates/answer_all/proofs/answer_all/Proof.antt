@@ -17,7 +17,7 @@ use Rattle.answer_all.proofs.answer_all.Reads as reads
 use Rattle.answer_all.proofs.answer_all.Lts as lts
 
 abbrev Inv-loop : tie.InvT-loop
-Inv-loop job room₀ work₀ c p₀ room work p = Midway job work₀ room₀ (headOf c) (c .len) (c .joins) (p .at) (p .out) (p .before) work room
+Inv-loop job room₀ work₀ c p₀ room work p = Midway job work₀ room₀ (headOf c) (c .len) (c .joins) p work room
 
 abbrev μ-loop : tie.MeasureT-loop
 μ-loop job room₀ work₀ c p₀ room work p = length job - p .at
@@ -37,7 +37,7 @@ is-end-requires c κs = search needs
 same-length : tie.Need-same-length Inv-loop μ-loop
 same-length c =
     let l = c .before .before .before in
-    let e = room-length (now (c .before .before .before .before .before .before .before .before .args .job)) _ _ _ _ _ _ _ _ _ _ (l .loop .inv) in
+    let e = room-length (now (c .before .before .before .before .before .before .before .before .args .job)) _ _ _ _ _ _ _ _ (l .loop .inv) in
     search needs
 
 same-length-2 : tie.Need-same-length-2 Inv-loop μ-loop
@@ -48,26 +48,26 @@ same-length-2 c =
 returns : tie.Need-returns Inv-loop μ-loop
 returns c =
     let r = c .before .before in
-    midway-ended (now (c .before .before .before .before .before .before .before .before .args .job)) _ _ _ _ _ _ _ _ _ _ (r .before .loop .inv) (said (r .read .result)) (r .read .ensures) (sym (c .before .is-end .ensures) ∙ c .if1 .taken)
+    midway-ended (now (c .before .before .before .before .before .before .before .before .args .job)) _ _ _ _ _ _ _ _ (r .before .loop .inv) (said (r .read .result)) (r .read .ensures) (sym (c .before .is-end .ensures) ∙ c .if1 .taken)
 
 behind-requires-2 : tie.Need-behind-requires-2 Inv-loop μ-loop
-behind-requires-2 c κs = midway-within (now (c .before .before .before .before .before .before .before .before .before .before .args .job)) _ _ _ _ _ _ _ _ _ _ (c .before .before .before .before .before .loop .inv)
+behind-requires-2 c κs = midway-within (now (c .before .before .before .before .before .before .before .before .before .before .args .job)) _ _ _ _ _ _ _ _ (c .before .before .before .before .before .loop .inv)
 
 answer-field-requires : tie.Need-answer-field-requires Inv-loop μ-loop
 answer-field-requires c κs =
     let r = c .before .before .before .before .before in
-    midway-meeting (now (c .before .before .before .before .before .before .before .before .before .before .before .args .job)) _ _ _ _ _ _ _ _ _ _ (r .before .loop .inv) (said (r .read .result)) (r .read .ensures) (sym (c .before .before .before .before .is-end .ensures) ∙ c .before .before .before .if1 .left)
+    midway-meeting (now (c .before .before .before .before .before .before .before .before .before .before .before .args .job)) _ _ _ _ _ _ _ _ (r .before .loop .inv) (said (r .read .result)) (r .read .ensures) (sym (c .before .before .before .before .is-end .ensures) ∙ c .before .before .before .if1 .left)
 
 loop-less : tie.Need-loop-less Inv-loop μ-loop
 loop-less c =
     let r = c .before .before .before .before .before .before .before .before .before .before in
-    let d = midway-closer (now (c .before .before .before .before .before .before .before .before .before .before .before .before .before .before .before .before .args .job)) _ _ _ _ _ _ _ _ _ _ (r .before .loop .inv) (said (r .read .result)) _ _ _ _ _ _ (r .read .ensures) (c .before .before .before .before .before .behind2 .ensures) (c .before .before .before .before .answer-field .ensures) in
+    let d = midway-closer (now (c .before .before .before .before .before .before .before .before .before .before .before .before .before .before .before .before .args .job)) _ _ _ _ _ _ _ _ (r .before .loop .inv) (said (r .read .result)) _ _ _ _ (r .read .ensures) (c .before .before .before .before .before .behind2 .ensures) (c .before .before .before .before .answer-field .ensures) in
     omega (arith, d .0, d .1)
 
 loop-again : tie.Need-loop-again Inv-loop μ-loop
 loop-again c =
     let r = c .before .before .before .before .before .before .before .before .before .before in
-    midway-on (now (c .before .before .before .before .before .before .before .before .before .before .before .before .before .before .before .before .args .job)) _ _ _ _ _ _ _ _ _ _ (r .before .loop .inv) (said (r .read .result)) _ _ _ _ _ _ (r .read .ensures) (c .before .before .before .before .before .behind2 .ensures) (c .before .before .before .before .answer-field .ensures)
+    midway-on (now (c .before .before .before .before .before .before .before .before .before .before .before .before .before .before .before .before .args .job)) _ _ _ _ _ _ _ _ (r .before .loop .inv) (said (r .read .result)) _ _ _ _ (r .read .ensures) (c .before .before .before .before .before .behind2 .ensures) (c .before .before .before .before .answer-field .ensures)
 
 pub answer-all-spec : {M : Type 1} → statement M
 answer-all-spec =

@@ -1,15 +1,19 @@
 -- `answer_all::answer_field` meets its contract, field by field: a note is passed, a question answered, and no other field is an item.
 -- Assumes nothing.
+use mathlib.Core.Path.{ap, _∙_}
+use native.Mathlib.Omega.{arith}
 use Rattle.job_field.specs.Answer.{said}
+use Rattle.job_field.proofs.Items.{pairs-few}
 use Rattle.answer_all.proofs.Midway.{note-passed, question-stepped, met-note, met-question, met-bad, met-header, met-end}
 use borrow.Author.Needs.{needs}
 use Rattle.answer_all.proofs.answer_field.Statement.{statement}
 use Rattle.answer_all.proofs.answer_field.Tie as tie
-use mathlib.Core.Path.{ap, _∙_}
-use native.Mathlib.Omega.{arith}
 
 enum-known-field : tie.Need-enum-known-field
 enum-known-field c = search needs
+
+mark-note-requires : tie.Need-mark-note-requires
+mark-note-requires c κs = met-note (said (@args .field)) _ (@pre) (ap said (@field .given .1)) .1
 
 stands-for-requires : tie.Need-stands-for-requires
 stands-for-requires c κs = search needs
@@ -17,14 +21,23 @@ stands-for-requires c κs = search needs
 wide-requires : tie.Need-wide-requires
 wide-requires c κs = search needs
 
-add-t15 : tie.Need-add-t15
-add-t15 c = omega (arith, met-note (said (c .before .before .before .before .before .before .before .args .field)) _ (c .before .before .before .before .before .before .before .pre) (ap said (c .before .before .before .field .given .1)), c .wide .ensures, c .before .stands-for .ensures)
+add-t18 : tie.Need-add-t18
+add-t18 c = omega (arith, met-note (said (@args .field)) _ (@pre) (ap said (@field .given .1)) .0, @wide .ensures, @stands-for .ensures)
+
+pairs-in-requires : tie.Need-pairs-in-requires
+pairs-in-requires c κs = search needs
+
+wide-requires-2 : tie.Need-wide-requires-2
+wide-requires-2 c κs = search needs
+
+add-t22 : tie.Need-add-t22
+add-t22 c = omega (arith, met-note (said (@args .field)) _ (@pre) (ap said (@field .given .1)) .1 .room, @wide2 .ensures, @pairs-in .ensures)
 
 enum-known-field-2 : tie.Need-enum-known-field-2
 enum-known-field-2 c = search needs
 
 answer-question-requires : tie.Need-answer-question-requires
-answer-question-requires c κs = met-question (said (c .before .before .before .before .before .before .before .args .field)) _ (c .before .before .before .before .before .before .before .pre) (ap said (c .before .before .before .field2 .given .1))
+answer-question-requires c κs = met-question (said (@args .field)) _ (@pre) (ap said (@field2 .given .1))
 
 enum-told : tie.Need-enum-told
 enum-told c = search needs
@@ -35,43 +48,51 @@ enum-told-2 c = search needs
 enum-told-3 : tie.Need-enum-told-3
 enum-told-3 c = search needs
 
-returns : tie.Need-returns
-returns c = note-passed (said (c .before .before .before .before .before .before .before .args .field)) _ _ (ap said (c .before .before .before .field .given .1)) (c .wide .ensures ∙ c .before .stands-for .ensures)
-
 same-length : tie.Need-same-length
 same-length c = search needs
+
+returns : tie.Need-returns
+returns c = note-passed (said (@args .field)) _ _ _ _ (ap said (@field .given .1)) (@wide .ensures ∙ @stands-for .ensures) (@wide2 .ensures ∙ @pairs-in .ensures) (@mark-note .ensures)
 
 same-length-2 : tie.Need-same-length-2
 same-length-2 c = search needs
 
+same-length-3 : tie.Need-same-length-3
+same-length-3 c = search needs
+
 returns-2 : tie.Need-returns-2
-returns-2 c = question-stepped (said (c .before .before .before .before .before .before .before .before .before .before .before .before .args .field)) _ _ _ _ (ap said (c .before .before .before .before .before .before .before .before .field2 .given .1)) (c .before .before .before .before .answer-question .ensures)
+returns-2 c = question-stepped (said (@args .field)) _ _ _ _ (ap said (@field2 .given .1)) (@answer-question .ensures)
 
 returns-3 : tie.Need-returns-3
-returns-3 c = absurd (met-bad (said (c .before .before .before .before .args .field)) (c .before .before .before .before .pre) (ap said (c .enum-told .given .1)))
+returns-3 c = absurd (met-bad (said (@args .field)) (@pre) (ap said (@enum-told .given .1)))
 
 returns-4 : tie.Need-returns-4
-returns-4 c = absurd (met-header (said (c .before .before .before .before .args .field)) (c .before .before .before .before .pre) (ap said (c .enum-told2 .given .1)))
+returns-4 c = absurd (met-header (said (@args .field)) (@pre) (ap said (@enum-told2 .given .1)))
 
 returns-5 : tie.Need-returns-5
-returns-5 c = absurd (met-end (said (c .before .before .before .before .args .field)) (c .before .before .before .before .pre) (ap said (c .enum-told3 .given .1)))
+returns-5 c = absurd (met-end (said (@args .field)) (@pre) (ap said (@enum-told3 .given .1)))
 
 pub answer-field-spec : {M : Type 1} → statement M
 answer-field-spec =
     tie.close
     (tie.spec
     enum-known-field
+    mark-note-requires
     stands-for-requires
     wide-requires
-    add-t15
+    add-t18
+    pairs-in-requires
+    wide-requires-2
+    add-t22
     enum-known-field-2
     answer-question-requires
     enum-told
     enum-told-2
     enum-told-3
-    returns
     same-length
+    returns
     same-length-2
+    same-length-3
     returns-2
     returns-3
     returns-4

@@ -67,8 +67,7 @@ returns-4 c =
     let r = now (a .report) in
     let f = leaderIn (now (a .work)) in
     let B = numbers (gather f (a .size)) in
-    let size : Holds r (a .at + 1) (two (length B)) = rw (length-list f (a .size), ← c .before .if3 .left) (c .before .before .number-in .ensures) in
-    (
+    let size : Holds r (a .at + 1) (two (length B)) = rw (length-list f (a .size), ← c .before .if3 .left) (c .before .before .number-in .ensures) in (
       λ t. subst (λ (k : ℕ). Holds r (a .at) (field k B)) (c .before .before .before .if2 .left) (holds-field r (a .at) B (omega (arith, c .before .before .before .before .before .before .before .before .pre .1, c .before .before .before .before .before .if1 .left)) size (c .are-leaders .ensures .0 t)),
       λ h. c .are-leaders .ensures .1 (field-body r (a .at) 136 B h),
     )

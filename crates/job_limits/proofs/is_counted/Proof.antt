@@ -13,17 +13,8 @@ enum-told-2 c = search needs
 enum-known-field : tie.Need-enum-known-field
 enum-known-field c = search needs
 
-wide-requires : tie.Need-wide-requires
-wide-requires c κs = search needs
-
-stands-for-requires : tie.Need-stands-for-requires
-stands-for-requires c κs = search needs
-
-wide-requires-2 : tie.Need-wide-requires-2
-wide-requires-2 c κs = search needs
-
-add-result : tie.Need-add-result
-add-result c = search needs
+note-fits-requires : tie.Need-note-fits-requires
+note-fits-requires c κs = search needs
 
 enum-told-3 : tie.Need-enum-told-3
 enum-told-3 c = search needs
@@ -38,7 +29,7 @@ returns-2 : tie.Need-returns-2
 returns-2 c = search needs
 
 returns-3 : tie.Need-returns-3
-returns-3 c = rw (c .before .before .before .before .field .given .1, ← c .before .stands-for .ensures, ← c .wide2 .ensures, ← c .before .before .wide .ensures)
+returns-3 c = rw (c .before .before .field .given .1) (c .note-fits .ensures)
 
 returns-4 : tie.Need-returns-4
 returns-4 c = rw (c .before .enum-told3 .given .1)
@@ -53,10 +44,7 @@ is-counted-spec =
     enum-told
     enum-told-2
     enum-known-field
-    wide-requires
-    stands-for-requires
-    wide-requires-2
-    add-result
+    note-fits-requires
     enum-told-3
     enum-told-4
     returns

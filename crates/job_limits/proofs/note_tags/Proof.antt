@@ -10,11 +10,17 @@ enum-known-l c = search needs
 enum-known-l-2 : tie.Need-enum-known-l-2
 enum-known-l-2 c = search needs
 
+enum-known-l-3 : tie.Need-enum-known-l-3
+enum-known-l-3 c = search needs
+
 returns : tie.Need-returns
 returns c = rw (c .before .l .given .1)
 
 returns-2 : tie.Need-returns-2
 returns-2 c = rw (c .before .l2 .given .1)
 
+returns-3 : tie.Need-returns-3
+returns-3 c = rw (c .before .l3 .given .1)
+
 pub note-tags-spec : {M : Type 1} → statement M
-note-tags-spec = tie.close (tie.spec enum-known-l enum-known-l-2 returns returns-2)
+note-tags-spec = tie.close (tie.spec enum-known-l enum-known-l-2 enum-known-l-3 returns returns-2 returns-3)

@@ -14,10 +14,10 @@ enum-told : tie.Need-enum-told
 enum-told c = search needs
 
 returns : tie.Need-returns
-returns c = let a = c .before .before .before .args in sym (ap (λ (x : Passed). behind x (a .at) (a .place) (a .before)) (c .before .passed .given .1))
+returns c = let a = c .before .before .before .args in sym (ap (λ (x : Passed). behind x (a .at) (a .place) (a .before) (a .differs)) (c .before .passed .given .1))
 
 returns-2 : tie.Need-returns-2
-returns-2 c = let a = c .before .before .args in sym (ap (λ (x : Passed). behind x (a .at) (a .place) (a .before)) (c .enum-told .given .1))
+returns-2 c = let a = c .before .before .args in sym (ap (λ (x : Passed). behind x (a .at) (a .place) (a .before) (a .differs)) (c .enum-told .given .1))
 
 pub onward-spec : {M : Type 1} → statement M
 onward-spec = tie.close (tie.spec enum-known-passed enum-told returns returns-2)

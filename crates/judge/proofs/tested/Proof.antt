@@ -1,14 +1,15 @@
 -- `judge::tested` meets its contract, question by question.
 -- Assumes nothing.
+use mathlib.Core.Path.{sym, ap}
 use Rattle.job_field.specs.Answer.{questionSaid}
-use Rattle.table.proofs.Frame.{within-refl}
+use Rattle.job_field.specs.Reading.{matterIn}
+use Rattle.report.specs.Report.{Known}
 use Rattle.report.proofs.Known.{ask-known, ask-tabled, explain-known, explain-tabled, why-known, why-tabled}
 use Rattle.answer_ask.proofs.Right.{right-same}
+use Rattle.judge.proofs.Going.{known-here}
 use borrow.Author.Needs.{needs}
 use Rattle.judge.proofs.tested.Statement.{statement}
 use Rattle.judge.proofs.tested.Tie as tie
-use mathlib.Core.Path.{ap}
-use denote.Ref.{now}
 
 enum-known-q : tie.Need-enum-known-q
 enum-known-q c = search needs
@@ -17,7 +18,7 @@ posed-requires : tie.Need-posed-requires
 posed-requires c κs = search needs
 
 led-requires : tie.Need-led-requires
-led-requires c κs = let t = rw (ap questionSaid (c .before .before .before .q .given .1)) at (c .before .before .before .before .before .before .before .pre) in (rw (c .posed .ensures) (record { past = t .past; units = t .units; early = t .early; from = t .tags .0; to = t .tags .1 .0 }), t .within)
+led-requires c κs = let t = rw (ap questionSaid (c .before .before .before .q .given .1)) at (c .before .before .before .before .before .before .before .before .pre) in (rw (c .posed .ensures) (record { past = t .breaking .past; units = rw (t .breaking .head) at (t .breaking .stands .units); early = t .breaking .passed; from = t .tags .0; to = t .tags .1 .0 }), t .within)
 
 enum-known-q-2 : tie.Need-enum-known-q-2
 enum-known-q-2 c = search needs
@@ -26,7 +27,16 @@ posed-requires-2 : tie.Need-posed-requires-2
 posed-requires-2 c κs = search needs
 
 explained-requires : tie.Need-explained-requires
-explained-requires c κs = let t = rw (ap questionSaid (c .before .before .before .q2 .given .1)) at (c .before .before .before .before .before .before .before .pre) in (rw (c .posed2 .ensures) (record { past = t .past; units = t .units; early = t .early; from = t .tags .0; to = t .tags .1 .0 }), t .within)
+explained-requires c κs = let t = rw (ap questionSaid (c .before .before .before .q2 .given .1)) at (c .before .before .before .before .before .before .before .before .pre) in (rw (c .posed2 .ensures) (record { past = t .breaking .past; units = rw (t .breaking .head) at (t .breaking .stands .units); early = t .breaking .passed; from = t .tags .0; to = t .tags .1 .0 }), t .within)
+
+enum-told : tie.Need-enum-told
+enum-told c = search needs
+
+left-requires : tie.Need-left-requires
+left-requires c κs = search needs
+
+checked-requires : tie.Need-checked-requires
+checked-requires c κs = (rw (c .left .ensures) (c .before .before .before .before .before .before .before .pre .breaking), c .before .before .before .before .before .before .before .pre .within)
 
 enum-known-q-3 : tie.Need-enum-known-q-3
 enum-known-q-3 c = search needs
@@ -35,25 +45,37 @@ posed-requires-3 : tie.Need-posed-requires-3
 posed-requires-3 c κs = search needs
 
 doubted-requires : tie.Need-doubted-requires
-doubted-requires c κs = let t = rw (ap questionSaid (c .before .before .before .q3 .given .1)) at (c .before .before .before .before .before .before .before .pre) in (rw (c .posed3 .ensures) (record { past = t .past; units = t .units; early = t .early; from = t .tags .0; to = t .tags .1 .0 }), t .within)
+doubted-requires c κs = let t = rw (ap questionSaid (@q3 .given .1)) at (@pre) in (rw (@posed3 .ensures) (record { past = t .breaking .past; units = rw (t .breaking .head) at (t .breaking .stands .units); early = t .breaking .passed; from = t .tags .0; to = t .tags .1 .0 }), t .within)
 
 same-length : tie.Need-same-length
 same-length c = search needs
 
 returns : tie.Need-returns
-returns c = rw (ap questionSaid (c .before .before .before .before .before .before .q .given .1)) (record { kept = c .before .before .led .ensures .kept; right = λ M b K. right-same (ask-known K) (ask-tabled K) (rw (c .before .before .before .posed .ensures) at (c .before .before .led .ensures .right)) })
+returns c =
+    rw (ap questionSaid (c .before .before .before .before .before .before .q .given .1))
+    (record { kept = c .before .before .led .ensures .kept; right = λ b e d. let K = known-here (c .before .before .before .before .before .before .before .before .before .before .before .pre .breaking) b e in right-same (ask-known K) (ask-tabled K) (rw (c .before .before .before .posed .ensures) at (c .before .before .led .ensures .right)) })
 
 same-length-2 : tie.Need-same-length-2
 same-length-2 c = search needs
 
 returns-2 : tie.Need-returns-2
-returns-2 c = rw (ap questionSaid (c .before .before .before .before .before .before .q2 .given .1)) (record { kept = c .before .before .explained .ensures .kept; right = λ M b K. right-same (explain-known K) (explain-tabled K) (rw (c .before .before .before .posed2 .ensures) at (c .before .before .explained .ensures .right)) })
+returns-2 c =
+    rw (ap questionSaid (c .before .before .before .before .before .before .q2 .given .1))
+    (record { kept = c .before .before .explained .ensures .kept; right = λ b e d. let K = known-here (c .before .before .before .before .before .before .before .before .before .before .before .pre .breaking) b e in right-same (explain-known K) (explain-tabled K) (rw (c .before .before .before .posed2 .ensures) at (c .before .before .explained .ensures .right)) })
 
 same-length-3 : tie.Need-same-length-3
 same-length-3 c = search needs
 
 returns-3 : tie.Need-returns-3
-returns-3 c = rw (ap questionSaid (c .before .before .before .before .before .before .q3 .given .1)) (record { kept = c .before .before .doubted .ensures .kept; right = λ M b K. right-same (why-known K) (why-tabled K) (rw (c .before .before .before .posed3 .ensures) at (c .before .before .doubted .ensures .right)) })
+returns-3 c = rw (ap questionSaid (c .before .before .before .before .before .enum-told .given .1)) (record { kept = c .before .before .checked .ensures .kept; right = c .before .before .checked .ensures .right })
+
+same-length-4 : tie.Need-same-length-4
+same-length-4 c = search needs
+
+returns-4 : tie.Need-returns-4
+returns-4 c =
+    rw (ap questionSaid (@q3 .given .1))
+    (record { kept = @doubted .ensures .kept; right = λ b e d. let K = known-here (@pre .breaking) b e in right-same (why-known K) (why-tabled K) (rw (@posed3 .ensures) at (@doubted .ensures .right)) })
 
 pub tested-spec : {M : Type 1} → statement M
 tested-spec =
@@ -65,6 +87,9 @@ tested-spec =
     enum-known-q-2
     posed-requires-2
     explained-requires
+    enum-told
+    left-requires
+    checked-requires
     enum-known-q-3
     posed-requires-3
     doubted-requires
@@ -73,4 +98,6 @@ tested-spec =
     same-length-2
     returns-2
     same-length-3
-    returns-3)
+    returns-3
+    same-length-4
+    returns-4)

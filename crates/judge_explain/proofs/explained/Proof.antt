@@ -14,7 +14,7 @@ came-requires c κs = search needs
 because-requires : tie.Need-because-requires
 because-requires c κs =
     let start = c .before .before .before .before .before .before .before in
-    (record { posed = start .pre .0; early = c .before .if1 .taken; first = c .before .before .before .came .ensures .then (c .before .if1 .taken) }, start .pre .1)
+    (record { posed = start .pre .0; early = c .before .if1 .taken; first = c .before .before .before .came .ensures .0 .then (c .before .if1 .taken) }, start .pre .1)
 
 same-length : tie.Need-same-length
 same-length c = c .before .before .because .ensures .kept .size
@@ -38,7 +38,7 @@ returns-2 c =
     let start = c .before .before .before .before .before .before .before .before in
     record {
       kept = within-refl (now (start .args .work));
-      right = apart-right (c .before .before .before .before .came .ensures .never (c .before .before .if1 .left)) (now (start .args .report)) (start .args .at) (c .before .is-apart .ensures .0 (c .if2 .taken));
+      right = apart-right (c .before .before .before .before .came .ensures .0 .never (c .before .before .if1 .left)) (now (start .args .report)) (start .args .at) (c .before .is-apart .ensures .0 (c .if2 .taken));
     }
 
 same-length-3 : tie.Need-same-length-3
@@ -49,7 +49,7 @@ returns-3 c =
     let start = c .before .before .before .before .before .before .before .before in
     record {
       kept = within-refl (now (start .args .work));
-      right = apart-wrong (c .before .before .before .before .came .ensures .never (c .before .before .if1 .left)) (now (start .args .report)) (start .args .at) (untrue (c .before .is-apart .ensures) (c .if2 .left));
+      right = apart-wrong (c .before .before .before .before .came .ensures .0 .never (c .before .before .if1 .left)) (now (start .args .report)) (start .args .at) (untrue (c .before .is-apart .ensures) (c .if2 .left));
     }
 
 pub explained-spec : {M : Type 1} → statement M

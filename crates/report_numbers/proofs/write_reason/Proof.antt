@@ -1,81 +1,42 @@
--- `report_numbers::write_reason` meets its contract: the front says two bytes for each number, and a turn lays the next number of the list
--- behind those that are laid. Assumes nothing.
+-- `report_numbers::write_reason` meets its contract: the front says two bytes for each number, and the list stands behind it.
+-- Assumes nothing.
+use native.Mathlib.Omega.{arith}
+use denote.Ref.{now}
+use Rattle.table.specs.Map.{listOf}
+use Rattle.report_numbers.proofs.Written.{field-laid}
 use borrow.Author.Needs.{needs}
 use Rattle.report_numbers.proofs.write_reason.Statement.{statement}
 use Rattle.report_numbers.proofs.write_reason.Tie as tie
-use native.Mathlib.Omega.{arith}
-use Prim.Native.Nat.{ℕ, _+_, _-_, _≤_}
-use mathlib.Core.Path.{_≡_, refl, sym, ap, _∙_}
-use lib.ListN.{length}
-use denote.Ref.{now}
-use Rattle.table.specs.Map.{listOf, listIn}
-use Rattle.report.specs.Report.{numbers, laid}
-use Rattle.report.proofs.Laid.{laid-none}
-use Rattle.report_numbers.proofs.Written.{list-laid, field-laid}
 
-abbrev Inv-loop : tie.InvT-loop
-Inv-loop room₀ at work count i₀ room i = (i ≤ count) × (length room ≡ length room₀) × (room ≡ laid (at + 3) (numbers (listIn i work)) room₀)
-
-abbrev μ-loop : tie.MeasureT-loop
-μ-loop room₀ at work count i₀ room i = count - i
-
-mul-put-front : tie.Need-mul-put-front Inv-loop μ-loop
+mul-put-front : tie.Need-mul-put-front
 mul-put-front c = search needs
 
-cast-put-front : tie.Need-cast-put-front Inv-loop μ-loop
+cast-put-front : tie.Need-cast-put-front
 cast-put-front c = search needs
 
-put-front-requires : tie.Need-put-front-requires Inv-loop μ-loop
+put-front-requires : tie.Need-put-front-requires
 put-front-requires c κs = search needs
 
-loop-holds : tie.Need-loop-holds Inv-loop μ-loop
-unfolding numbers
-loop-holds c = (omega arith, refl, sym (laid-none (c .before .before .before .before .before .before .args .at + 3) (c .before .before .put-front .last .0)))
+add-write-list : tie.Need-add-write-list
+add-write-list c = search needs
 
-add-put-listed : tie.Need-add-put-listed Inv-loop μ-loop
-add-put-listed c = search needs
+write-list-requires : tie.Need-write-list-requires
+write-list-requires c κs = search needs
 
-put-listed-requires : tie.Need-put-listed-requires Inv-loop μ-loop
-put-listed-requires c κs = let f : length (c .before .before .loop .room) ≡ length (now (c .before .before .before .before .before .before .before .before .before .args .room)) = c .before .before .loop .inv .1 ∙ c .before .before .before .before .before .put-front .kept .0 in (omega (arith, c .before .before .before .before .before .before .before .before .before .pre), omega (arith, c .before .before .before .before .before .before .before .before .before .pre), omega (arith, c .before .before .before .before .before .before .before .before .before .pre))
+same-length : tie.Need-same-length
+same-length c = search needs
 
-add-i : tie.Need-add-i Inv-loop μ-loop
-add-i c = search needs
-
-loop-less : tie.Need-loop-less Inv-loop μ-loop
-loop-less c = search needs
-
-loop-again : tie.Need-loop-again Inv-loop μ-loop
-loop-again c = let a = c .before .before .before .before .before .before .before .before .before .before .before .before .args in
-    let l = c .before .before .before .before .before .loop in
-    let room = c .before .before .before .before .before .before .before .before .put-front .last .0 in
-    let f : length room ≡ length (now (a .room)) = c .before .before .before .before .before .before .before .before .put-front .kept .0 in
-    let i : l .i ≤ a .count = l .inv .0 in
-    (omega arith, c .before .before .put-listed .kept .0 ∙ l .inv .1, list-laid (listOf (now (a .work))) (a .at + 3) (l .i) room (l .room) (c .before .before .put-listed .last .0) (omega (arith, c .before .before .before .before .before .before .before .before .before .before .before .before .pre)) (l .inv .2) (c .before .before .put-listed .ensures))
-
-same-length : tie.Need-same-length Inv-loop μ-loop
-same-length c = c .before .loop .inv .1 ∙ c .before .before .before .before .put-front .kept .0
-
-returns : tie.Need-returns Inv-loop μ-loop
-returns c = let a = c .before .before .before .before .before .before .before .before .args in
-    let l = c .before .loop in
-    let room = c .before .before .before .before .put-front .last .0 in
-    let e : l .i ≡ a .count = omega (arith, l .inv .0) in
-    field-laid 132 (listOf (now (a .work))) (a .at) (a .count) (now (a .room)) room (l .room) (omega (arith, c .before .before .before .before .before .before .before .before .pre)) (c .before .before .before .before .put-front .ensures) (l .inv .2 ∙ ap (λ (n : ℕ). laid (a .at + 3) (numbers (listIn n (now (a .work)))) room) e)
+returns : tie.Need-returns
+returns c = field-laid 132 (listOf (now (@args .work))) (@args .at) (@args .count) (now (@args .room)) _ _ (omega (arith, @pre)) (@put-front .ensures) (@write-list .ensures)
 
 pub write-reason-spec : {M : Type 1} → statement M
 write-reason-spec =
     tie.close
     (tie.spec
-    Inv-loop
-    μ-loop
     mul-put-front
     cast-put-front
     put-front-requires
-    loop-holds
-    add-put-listed
-    put-listed-requires
-    add-i
-    loop-less
-    loop-again
+    add-write-list
+    write-list-requires
     same-length
     returns)

@@ -43,6 +43,12 @@ shown-requires-4 c κs = search needs
 put-explain-requires : tie.Need-put-explain-requires
 put-explain-requires c κs = search needs
 
+enum-told : tie.Need-enum-told
+enum-told c = search needs
+
+put-broken-requires : tie.Need-put-broken-requires
+put-broken-requires c κs = search needs
+
 enum-known-q-3 : tie.Need-enum-known-q-3
 enum-known-q-3 c = search needs
 
@@ -71,7 +77,13 @@ same-length-3 : tie.Need-same-length-3
 same-length-3 c = search needs
 
 returns-3 : tie.Need-returns-3
-returns-3 c = rw (c .before .before .before .before .before .before .before .q3 .given .1) (put-as (why-as _ _ (c .before .before .before .before .before .shown5 .ensures) (c .before .before .before .before .shown6 .ensures)) (c .before .before .put-why .ensures))
+returns-3 c = rw (@enum-told .given .1) (@put-broken .ensures)
+
+same-length-4 : tie.Need-same-length-4
+same-length-4 c = search needs
+
+returns-4 : tie.Need-returns-4
+returns-4 c = rw (@q3 .given .1) (put-as (why-as _ _ (@shown5 .ensures) (@shown6 .ensures)) (@put-why .ensures))
 
 pub put-question-spec : {M : Type 1} → statement M
 put-question-spec =
@@ -89,6 +101,8 @@ put-question-spec =
     shown-requires-3
     shown-requires-4
     put-explain-requires
+    enum-told
+    put-broken-requires
     enum-known-q-3
     shown-requires-5
     shown-requires-6
@@ -98,4 +112,6 @@ put-question-spec =
     same-length-2
     returns-2
     same-length-3
-    returns-3)
+    returns-3
+    same-length-4
+    returns-4)

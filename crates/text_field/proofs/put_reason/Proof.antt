@@ -11,15 +11,15 @@ use Rattle.text_line.specs.Line.{parted}
 use Rattle.text_field.specs.Fields.{numbersIn, bodyOf}
 use Rattle.text_line.proofs.Puts.{put-as}
 use Rattle.text_line.proofs.Parted.{put-more, put-ended}
-use Rattle.text_field.proofs.Parts.{body-slice, length-body}
+use Rattle.text_field.proofs.Parts.{part-slice, length-part}
 use Rattle.text_field.proofs.put_reason.Statement.{statement}
 use Rattle.text_field.proofs.put_reason.Tie as tie
 
 width-requires : tie.Need-width-requires
 width-requires c κs = search needs
 
-body-start-requires : tie.Need-body-start-requires
-body-start-requires c κs = search needs
+part-start-requires : tie.Need-part-start-requires
+part-start-requires c κs = search needs
 
 open-line-requires : tie.Need-open-line-requires
 open-line-requires c κs = search needs
@@ -43,12 +43,12 @@ returns : tie.Need-returns
 returns c =
     let start = c .before .before .before .before .before .before .before .before .before .before .before .before .before .before .before .before .before .before .before .before in
     let report : List ℕ = now (start .args .report) in
-    let from : ℕ = c .before .before .before .before .before .before .before .before .before .before .before .before .before .before .before .before .body-start .result in
+    let from : ℕ = c .before .before .before .before .before .before .before .before .before .before .before .before .before .before .before .before .part-start .result in
     let stop : ℕ = c .before .before .before .before .before .before .before .before .before .before .before .before .before .before .before .before .before .width .result in
     let ns : List ℕ = numbersIn (bodyOf report) in
     let k : ℕ = (stop - from) / 2 in
-    let is : parted (numbersIn (slice from stop report)) ≡ parted ns = rw (body-slice report from stop (c .before .before .before .before .before .before .before .before .before .before .before .before .before .before .before .before .before .width .ensures) (c .before .before .before .before .before .before .before .before .before .before .before .before .before .before .before .before .body-start .ensures)) in
-    let many : parted (k ∷ []) ≡ parted (length ns ∷ []) = rw (length-body report from stop (c .before .before .before .before .before .before .before .before .before .before .before .before .before .before .before .before .before .width .ensures) (c .before .before .before .before .before .before .before .before .before .before .before .before .before .before .before .before .body-start .ensures)) in
+    let is : parted (numbersIn (slice from stop report)) ≡ parted ns = rw (part-slice report 3 from stop (c .before .before .before .before .before .before .before .before .before .before .before .before .before .before .before .before .before .width .ensures) (c .before .before .before .before .before .before .before .before .before .before .before .before .before .before .before .before .part-start .ensures)) in
+    let many : parted (k ∷ []) ≡ parted (length ns ∷ []) = rw (length-part report 3 from stop (c .before .before .before .before .before .before .before .before .before .before .before .before .before .before .before .before .before .width .ensures) (c .before .before .before .before .before .before .before .before .before .before .before .before .before .before .before .before .part-start .ensures)) in
     put-ended (start .args .s ∷ start .args .t ∷ length ns ∷ ns)
     (put-more (start .args .s ∷ start .args .t ∷ length ns ∷ []) ns
     (put-more (start .args .s ∷ start .args .t ∷ []) (length ns ∷ []) (c .before .before .before .before .before .before .before .before .before .before .before .before .before .before .open-line .ensures) (put-as many (c .before .before .before .before .before .before .before .before .before .before .put-parted .ensures)))
@@ -60,7 +60,7 @@ put-reason-spec =
     tie.close
     (tie.spec
     width-requires
-    body-start-requires
+    part-start-requires
     open-line-requires
     sub-put-parted
     put-parted-requires

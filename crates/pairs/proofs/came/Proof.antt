@@ -1,13 +1,13 @@
--- `judge_explain::came` meets its contract: a tag is equal to itself without a record, and the newest join between two tags was made at the
+-- `pairs::came` meets its contract: a tag is equal to itself without a record, and the newest join between two tags was made at the
 -- first record that makes them equal. Assumes nothing.
 use mathlib.Core.Path.{sym, _∙_}
 use borrow.Author.Needs.{needs}
 use borrow.Author.Tests.{eqb-false, eqb-true}
 use native.Mathlib.Omega.{arith}
 use Rattle.moment.proofs.Kept.{past-forest}
-use Rattle.judge_explain.proofs.Right.{came-same, came-never, came-met}
-use Rattle.judge_explain.proofs.came.Statement.{statement}
-use Rattle.judge_explain.proofs.came.Tie as tie
+use Rattle.pairs.proofs.Coming.{came-same, came-never, came-met}
+use Rattle.pairs.proofs.came.Statement.{statement}
+use Rattle.pairs.proofs.came.Tie as tie
 
 is-requires : tie.Need-is-requires
 is-requires c κs = search needs

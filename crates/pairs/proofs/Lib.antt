@@ -1,0 +1,4 @@
+pub mod Coming
+pub mod Marking
+pub mod Finding
+pub mod Breaking

@@ -1,0 +1,4 @@
+pub mod Came
+pub mod Marks
+pub mod Found
+pub mod Breaking
