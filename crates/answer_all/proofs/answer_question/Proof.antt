@@ -11,19 +11,19 @@ enum-known-q : tie.Need-enum-known-q
 enum-known-q c = search needs
 
 answer-ask-requires : tie.Need-answer-ask-requires
-answer-ask-requires c κs = (rw (ap questionSaid (@q .given .1)) at (@pre)) .facing
+answer-ask-requires c κs = (rw (ap questionSaid (c .before .before .before .q .given .1)) at (c .before .before .before .before .before .before .before .before .pre)) .facing
 
 enum-known-q-2 : tie.Need-enum-known-q-2
 enum-known-q-2 c = search needs
 
 answer-explain-requires : tie.Need-answer-explain-requires
-answer-explain-requires c κs = (rw (ap questionSaid (@q2 .given .1)) at (@pre)) .facing
+answer-explain-requires c κs = (rw (ap questionSaid (c .before .before .before .q2 .given .1)) at (c .before .before .before .before .before .before .before .before .pre)) .facing
 
 enum-told : tie.Need-enum-told
 enum-told c = search needs
 
 answer-broken-requires : tie.Need-answer-broken-requires
-answer-broken-requires c κs = let p = rw (ap questionSaid (@enum-told .given .1)) at (@pre) in (p .breaking, p .facing .fits)
+answer-broken-requires c κs = let p = rw (ap questionSaid (c .before .before .enum-told .given .1)) at (c .before .before .before .before .before .before .before .pre) in (p .breaking, p .facing .fits)
 
 enum-known-q-3 : tie.Need-enum-known-q-3
 enum-known-q-3 c = search needs
@@ -38,7 +38,7 @@ same-length-2 : tie.Need-same-length-2
 same-length-2 c = search needs
 
 returns : tie.Need-returns
-returns c = rw (ap questionSaid (@q .given .1)) (answered-replied (@pre .breaking) (@answer-ask .ensures))
+returns c = rw (ap questionSaid (c .before .before .before .before .before .before .before .before .q .given .1)) (answered-replied (c .before .before .before .before .before .before .before .before .before .before .before .before .before .pre .breaking) (c .before .before .before .before .answer-ask .ensures))
 
 same-length-3 : tie.Need-same-length-3
 same-length-3 c = search needs
@@ -47,7 +47,7 @@ same-length-4 : tie.Need-same-length-4
 same-length-4 c = search needs
 
 returns-2 : tie.Need-returns-2
-returns-2 c = rw (ap questionSaid (@q2 .given .1)) (answered-replied (@pre .breaking) (@answer-explain .ensures))
+returns-2 c = rw (ap questionSaid (c .before .before .before .before .before .before .before .before .q2 .given .1)) (answered-replied (c .before .before .before .before .before .before .before .before .before .before .before .before .before .pre .breaking) (c .before .before .before .before .answer-explain .ensures))
 
 same-length-5 : tie.Need-same-length-5
 same-length-5 c = search needs
@@ -56,7 +56,7 @@ same-length-6 : tie.Need-same-length-6
 same-length-6 c = search needs
 
 returns-3 : tie.Need-returns-3
-returns-3 c = rw (ap questionSaid (@enum-told .given .1)) (@answer-broken .ensures)
+returns-3 c = rw (ap questionSaid (c .before .before .before .before .before .before .before .enum-told .given .1)) (c .before .before .before .before .answer-broken .ensures)
 
 same-length-7 : tie.Need-same-length-7
 same-length-7 c = search needs
