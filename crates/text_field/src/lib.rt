@@ -146,7 +146,7 @@ fn put_leaders(report: &[u8], s: usize, t: usize, out: &mut [u8], at: usize) -> 
       ⌜ Put (line 87 (s ∷ t ∷ ns)) (now (out .entry)) at (now (out .exit)) r ⌝ }
 {
     let stop = width(report);
-    let from = body_start(stop);
+    let from = part_start(3, stop);
     let next = open_line(out, at, b'W', s, t);
     let last = put_numbers(report, from, stop, out, next);
     put(out, last, b'\n')

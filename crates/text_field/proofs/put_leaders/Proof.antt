@@ -10,15 +10,15 @@ use Rattle.text_line.specs.Line.{parted}
 use Rattle.text_field.specs.Fields.{numbersIn, bodyOf}
 use Rattle.text_line.proofs.Puts.{put-as}
 use Rattle.text_line.proofs.Parted.{put-more, put-ended}
-use Rattle.text_field.proofs.Parts.{body-slice}
+use Rattle.text_field.proofs.Parts.{part-slice}
 use Rattle.text_field.proofs.put_leaders.Statement.{statement}
 use Rattle.text_field.proofs.put_leaders.Tie as tie
 
 width-requires : tie.Need-width-requires
 width-requires c κs = search needs
 
-body-start-requires : tie.Need-body-start-requires
-body-start-requires c κs = search needs
+part-start-requires : tie.Need-part-start-requires
+part-start-requires c κs = search needs
 
 open-line-requires : tie.Need-open-line-requires
 open-line-requires c κs = search needs
@@ -36,10 +36,10 @@ returns : tie.Need-returns
 returns c =
     let a = c .before .before .before .before .before .before .before .before .before .before .before .before .before .before .before .before .args in
     let report : List ℕ = now (a .report) in
-    let from : ℕ = c .before .before .before .before .before .before .before .before .before .before .before .before .body-start .result in
+    let from : ℕ = c .before .before .before .before .before .before .before .before .before .before .before .before .part-start .result in
     let stop : ℕ = c .before .before .before .before .before .before .before .before .before .before .before .before .before .width .result in
     let ns : List ℕ = numbersIn (bodyOf report) in
-    let is : parted (numbersIn (slice from stop report)) ≡ parted ns = rw (body-slice report from stop (c .before .before .before .before .before .before .before .before .before .before .before .before .before .width .ensures) (c .before .before .before .before .before .before .before .before .before .before .before .before .body-start .ensures)) in
+    let is : parted (numbersIn (slice from stop report)) ≡ parted ns = rw (part-slice report 3 from stop (c .before .before .before .before .before .before .before .before .before .before .before .before .before .width .ensures) (c .before .before .before .before .before .before .before .before .before .before .before .before .part-start .ensures)) in
     put-ended (a .s ∷ a .t ∷ ns) (put-more (a .s ∷ a .t ∷ []) ns (c .before .before .before .before .before .before .before .before .before .before .open-line .ensures) (put-as is (c .before .before .before .before .before .before .put-numbers .ensures))) (c .before .before .put .ensures)
 
 pub put-leaders-spec : {M : Type 1} → statement M
@@ -47,7 +47,7 @@ put-leaders-spec =
     tie.close
     (tie.spec
     width-requires
-    body-start-requires
+    part-start-requires
     open-line-requires
     put-numbers-requires
     put-requires
