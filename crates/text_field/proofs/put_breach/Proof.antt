@@ -45,16 +45,16 @@ same-length c = search needs
 
 returns : tie.Need-returns
 returns c =
-    let report : List ℕ = now (@args .report) in
-    let from : ℕ = @part-start .result in
-    let stop : ℕ = @width .result in
+    let report : List ℕ = now (c .before .before .before .before .before .before .before .before .before .before .before .before .before .before .before .before .before .before .args .report) in
+    let from : ℕ = c .before .before .before .before .before .before .before .before .before .before .before .before .before .before .part-start .result in
+    let stop : ℕ = c .before .before .before .before .before .before .before .before .before .before .before .before .before .before .before .width .result in
     let ns : List ℕ = numbersIn (partOf 5 report) in
-    let first : @wide .result ≡ numberAt report 3 = @wide .ensures ∙ @number .ensures in
-    let is : parted (numbersIn (slice from stop report)) ≡ parted ns = rw (part-slice report 5 from stop (@width .ensures) (@part-start .ensures)) in
-    let many : (stop - from) / 2 ≡ length ns = length-part report 5 from stop (@width .ensures) (@part-start .ensures) in
+    let first : c .before .before .before .before .before .before .before .before .before .before .before .before .wide .result ≡ numberAt report 3 = c .before .before .before .before .before .before .before .before .before .before .before .before .wide .ensures ∙ c .before .before .before .before .before .before .before .before .before .before .before .before .before .number .ensures in
+    let is : parted (numbersIn (slice from stop report)) ≡ parted ns = rw (part-slice report 5 from stop (c .before .before .before .before .before .before .before .before .before .before .before .before .before .before .before .width .ensures) (c .before .before .before .before .before .before .before .before .before .before .before .before .before .before .part-start .ensures)) in
+    let many : (stop - from) / 2 ≡ length ns = length-part report 5 from stop (c .before .before .before .before .before .before .before .before .before .before .before .before .before .before .before .width .ensures) (c .before .before .before .before .before .before .before .before .before .before .before .before .before .before .part-start .ensures) in
     put-ended (numberAt report 3 ∷ length ns ∷ ns)
-    (put-more (numberAt report 3 ∷ length ns ∷ []) ns (rw (first, many) at (@open-line .ensures)) (put-as is (@put-numbers .ensures)))
-    (@put .ensures)
+    (put-more (numberAt report 3 ∷ length ns ∷ []) ns (rw (first, many) at (c .before .before .before .before .before .before .before .before .before .before .open-line .ensures)) (put-as is (c .before .before .before .before .before .before .put-numbers .ensures)))
+    (c .before .before .put .ensures)
 
 pub put-breach-spec : {M : Type 1} → statement M
 put-breach-spec =

@@ -20,13 +20,13 @@ same-length : tie.Need-same-length
 same-length c = search needs
 
 returns : tie.Need-returns
-returns c = put-as (brokenLine-breach _ _ _ (sym (@byte .ensures) ∙ @if1 .taken)) (@put-breach .ensures)
+returns c = put-as (brokenLine-breach _ _ _ (sym (c .before .before .before .before .before .byte .ensures) ∙ c .before .before .before .before .if1 .taken)) (c .before .before .put-breach .ensures)
 
 same-length-2 : tie.Need-same-length-2
 same-length-2 c = search needs
 
 returns-2 : tie.Need-returns-2
-returns-2 c = put-as (brokenLine-none _ _ _ (λ e. @if1 .left (@byte .ensures ∙ e))) (@put-intact .ensures)
+returns-2 c = put-as (brokenLine-none _ _ _ (λ e. c .before .before .before .before .if1 .left (c .before .before .before .before .before .byte .ensures ∙ e))) (c .before .before .put-intact .ensures)
 
 pub put-broken-spec : {M : Type 1} → statement M
 put-broken-spec =

@@ -17,7 +17,7 @@ same-length : tie.Need-same-length
 same-length c = search needs
 
 returns : tie.Need-returns
-returns c = put-ended [] (@put .ensures) (@put2 .ensures)
+returns c = put-ended [] (c .before .before .before .before .before .before .put .ensures) (c .before .before .put2 .ensures)
 
 pub put-intact-spec : {M : Type 1} → statement M
 put-intact-spec =

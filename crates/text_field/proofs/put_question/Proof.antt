@@ -77,13 +77,13 @@ same-length-3 : tie.Need-same-length-3
 same-length-3 c = search needs
 
 returns-3 : tie.Need-returns-3
-returns-3 c = rw (@enum-told .given .1) (@put-broken .ensures)
+returns-3 c = rw (c .before .before .before .before .enum-told .given .1) (c .before .before .put-broken .ensures)
 
 same-length-4 : tie.Need-same-length-4
 same-length-4 c = search needs
 
 returns-4 : tie.Need-returns-4
-returns-4 c = rw (@q3 .given .1) (put-as (why-as _ _ (@shown5 .ensures) (@shown6 .ensures)) (@put-why .ensures))
+returns-4 c = rw (c .before .before .before .before .before .before .before .q3 .given .1) (put-as (why-as _ _ (c .before .before .before .before .before .shown5 .ensures) (c .before .before .before .before .shown6 .ensures)) (c .before .before .put-why .ensures))
 
 pub put-question-spec : {M : Type 1} → statement M
 put-question-spec =
