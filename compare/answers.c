@@ -178,6 +178,8 @@ static void history_literally(struct history *history, const struct job *job)
         m->follows = q->broken ? m->pair > 0 : literal_same(&after[q->before], m->s, m->t);
         m->leader_s = literal_leader(&after[q->before], job, m->s);
         m->leader_t = literal_leader(&after[q->before], job, m->t);
+        for (int x = 0; q->why && x < job->tags; x++)
+            history->leaders[i][x] = (unsigned short)literal_leader(&after[q->before], job, x);
         m->classes = literal_classes(&after[q->before], job->tags);
         m->first = 0;
         if (m->follows)
@@ -212,6 +214,8 @@ static void history_by_use_lists(struct history *history, const struct job *job)
         m->follows = q->broken ? m->pair > 0 : closure_same(closure, m->s, m->t);
         m->leader_s = leader(closure, job, m->s);
         m->leader_t = leader(closure, job, m->t);
+        for (int x = 0; q->why && x < job->tags; x++)
+            history->leaders[i][x] = (unsigned short)leader(closure, job, x);
         m->first = m->follows && m->s != m->t ? first[m->s * job->tags + m->t] : 0;
         m->classes = closure_classes(closure);
     }
@@ -391,6 +395,18 @@ static void field_add(struct bytes *out, int kind, const int *numbers, int count
         number_add(out, numbers[i]);
 }
 
+/* Document 02, No. 7: the leader of every tag in order, or no body where the equality follows. */
+static void why_add(struct bytes *out, const struct job *job, const struct history *history, int question)
+{
+    int numbers[MOST_TAGS];
+    for (int x = 0; x < job->tags; x++)
+        numbers[x] = history->leaders[question][x];
+    if (history->moment[question].follows)
+        field_add(out, KIND_EQUALS, NULL, 0);
+    else
+        field_add(out, KIND_APART, numbers, job->tags);
+}
+
 void report_write(const struct job *job, const struct history *history, uint64_t order, struct bytes *out)
 {
     int numbers[MOST_RECORDS + 1];
@@ -401,6 +417,8 @@ void report_write(const struct job *job, const struct history *history, uint64_t
             field_add(out, KIND_BREACH, numbers, 1 + reason_find(job, history, i, order, numbers + 1));
         } else if (job->question[i].broken)
             field_add(out, KIND_WHOLE, NULL, 0);
+        else if (job->question[i].why)
+            why_add(out, job, history, i);
         else if (!job->question[i].explain)
             field_add(out, KIND_LEADERS, (int[]){m->leader_s, m->leader_t}, 2);
         else if (m->follows)
@@ -435,6 +453,13 @@ static size_t right_field(const struct job *job, const struct history *history, 
                                        reason_fault(job, history, question, numbers + 1, count - 1) == 0;
         return right ? whole : 0;
     }
+    if (job->question[question].why) {
+        struct bytes right = {0};
+        why_add(&right, job, history, question);
+        int same = right.length == whole && memcmp(right.at, field, whole) == 0;
+        free(right.at);
+        return same ? whole : 0;
+    }
     if (!job->question[question].explain) {
         int right = kind == KIND_LEADERS && count == 2 && numbers[0] == m->leader_s && numbers[1] == m->leader_t;
         return right ? whole : 0;
@@ -468,6 +493,13 @@ static void line_write(const struct job *job, const struct history *history, int
     const struct moment *m = &history->moment[i];
     if (q->broken && m->pair == 0) {
         text_add(out, "K\n");
+        return;
+    }
+    if (q->why) {
+        text_add(out, "%c %d %d", m->follows ? 'Y' : 'W', q->s, q->t);
+        for (int x = 0; !m->follows && x < job->tags; x++)
+            text_add(out, " %d", history->leaders[i][x]);
+        text_add(out, "\n");
         return;
     }
     if (!q->broken && !q->explain) {

@@ -25,6 +25,7 @@ struct moment {
 struct history {
     enum way way;
     struct moment moment[MOST_QUESTIONS];
+    unsigned short leaders[MOST_QUESTIONS][MOST_TAGS]; /* of a why: the leader of every tag */
     int classes, idle;
     int joined_nothing;                    /* the records after which there are as many classes as before: no idle count (No. 6) */
     unsigned char is_idle[MOST_RECORDS + 1]; /* by record number */

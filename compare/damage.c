@@ -96,6 +96,39 @@ static void leaders(struct maker *m, const struct question *q, const struct mome
     with_field(m, "three leaders", KIND_LEADERS, (int[]){at->leader_s, at->leader_t, 0}, 3);
 }
 
+/* Document 02, No. 7. A list that passes the three looks and is not that of the leaders is wrong too. */
+static void whys(struct maker *m, int question)
+{
+    const struct job *job = m->job;
+    int right[MOST_TAGS + 1] = {0}, list[MOST_TAGS + 1];
+    for (int x = 0; x < job->tags; x++)
+        right[x] = m->history->leaders[question][x];
+    if (m->history->moment[question].follows) {
+        with_field(m, "88 where it follows", KIND_APART, right, job->tags);
+        with_field(m, "89 with a number", KIND_EQUALS, right, 1);
+        return;
+    }
+    with_field(m, "89 where it does not follow", KIND_EQUALS, right, 0);
+    with_field(m, "89 with the leaders", KIND_EQUALS, right, job->tags);
+    with_field(m, "a leader too few", KIND_APART, right, job->tags - 1);
+    with_field(m, "a leader too many", KIND_APART, right, job->tags + 1);
+    memcpy(list, right, sizeof list);
+    list[random_below(&m->state, job->tags)]++;
+    with_field(m, "a leader one higher", KIND_APART, list, job->tags);
+    for (int x = 0; x < job->tags; x++)
+        list[x] = right[x] + 1;
+    with_field(m, "another list that passes the looks", KIND_APART, list, job->tags);
+    memcpy(list, right, sizeof list);
+    for (int x = 0; x + 1 < job->tags; x++)
+        if (list[x] > list[x + 1]) { /* two leaders in their own order */
+            int kept = list[x];
+            list[x] = list[x + 1];
+            list[x + 1] = kept;
+            with_field(m, "leaders in their own order", KIND_APART, list, job->tags);
+            break;
+        }
+}
+
 static void not_following(struct maker *m, const struct question *q)
 {
     int numbers[MOST_RECORDS];
@@ -202,7 +235,7 @@ static void with_breach(struct maker *m, int question)
         static struct job other;
         static struct history history;
         other = *m->job;
-        other.question[0] = (struct question){1, other.pair[k].a, other.pair[k].b, q->before, 0, 0};
+        other.question[0] = (struct question){1, other.pair[k].a, other.pair[k].b, q->before, 0, 0, 0};
         other.questions = 1;
         history_of(&history, &other, m->history->way);
         if (!history.moment[0].follows)
@@ -284,6 +317,8 @@ void each_damage(const struct job *job, const struct history *history, const str
                 with_breach(&m, i);
             else if (job->question[i].broken)
                 unbroken(&m, &job->question[i]);
+            else if (job->question[i].why)
+                whys(&m, i);
             else if (!job->question[i].explain)
                 leaders(&m, &job->question[i], &history->moment[i]);
             else if (history->moment[i].follows)

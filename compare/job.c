@@ -15,6 +15,7 @@ static int body_length(int kind)
     case KIND_ASK:
     case KIND_EXPLAIN:
     case KIND_DIFFER:
+    case KIND_WHY:
         return 4;
     case KIND_APPLY:
         return 6;
@@ -42,6 +43,7 @@ static int too_many(const struct job *job, int kind)
     case KIND_ASK:
     case KIND_EXPLAIN:
     case KIND_BROKEN:
+    case KIND_WHY:
         return job->questions == MOST_QUESTIONS;
     default:
         return 0;
@@ -115,13 +117,14 @@ static void take_question(struct job *job, int kind, const unsigned char *body)
     struct question *q = &job->question[job->questions++];
     q->explain = kind == KIND_EXPLAIN;
     q->broken = kind == KIND_BROKEN;
+    q->why = kind == KIND_WHY;
     q->s = q->broken ? 0 : two_bytes(body);
     q->t = q->broken ? 0 : two_bytes(body + 2);
     q->before = job->records;
     q->pairs = job->pairs;
     long bound = 2L * (job->tags - 1);
     long most = job->records < bound ? job->records : bound;
-    job->needed += q->broken ? 5 + 2 * most : q->explain ? 3 + 2 * most : 7;
+    job->needed += q->broken ? 5 + 2 * most : q->why ? 3 + 2L * job->tags : q->explain ? 3 + 2 * most : 7;
 }
 
 void job_read(struct job *job, const unsigned char *bytes, size_t length)
@@ -157,7 +160,7 @@ void job_read(struct job *job, const unsigned char *bytes, size_t length)
             take_record(job, kind, body);
         else if (kind == KIND_DIFFER)
             take_pair(job, body);
-        else if (kind == KIND_ASK || kind == KIND_EXPLAIN || kind == KIND_BROKEN)
+        else if (kind == KIND_ASK || kind == KIND_EXPLAIN || kind == KIND_BROKEN || kind == KIND_WHY)
             take_question(job, kind, body);
         else if (at < length) {
             job->number = 8;

@@ -1,4 +1,4 @@
-/* A job read by document 01, sections "The job and the report" and "What is lent, and each refusal", and by document 02, No. 1 to 3.
+/* A job read by document 01, sections "The job and the report" and "What is lent, and each refusal", and by document 02, No. 1 to 3 and 7.
    Written from those documents alone; rests on nothing else here. */
 #ifndef JOB_H
 #define JOB_H
@@ -24,12 +24,15 @@ enum {
     KIND_EXPLAIN = 0x04,
     KIND_DIFFER = 0x05,
     KIND_BROKEN = 0x06,
+    KIND_WHY = 0x07,
     KIND_END = 0x7F,
     KIND_LEADERS = 0x83,
     KIND_REASON = 0x84,
     KIND_NOT = 0x85,
     KIND_BREACH = 0x86,
     KIND_WHOLE = 0x87,
+    KIND_APART = 0x88, /* the leader of every tag */
+    KIND_EQUALS = 0x89,
     KIND_TOTALS = 0x8F
 };
 
@@ -51,6 +54,7 @@ struct question {
     int before; /* how many records stand before it */
     int broken; /* a 06 */
     int pairs;  /* how many pairs that must differ stand before it */
+    int why;    /* document 02, No. 7 */
 };
 
 /* Either a refusal with its place, or number 0 and what the job says. */

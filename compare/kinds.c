@@ -66,6 +66,11 @@ static void broken(struct bytes *out)
     field(out, KIND_BROKEN, 0, 0, 0, 0);
 }
 
+static void why(struct bytes *out, int s, int t)
+{
+    field(out, KIND_WHY, 2, s, t, 0);
+}
+
 static void end(struct bytes *out)
 {
     field(out, KIND_END, 0, 0, 0, 0);
@@ -175,6 +180,7 @@ static void spare_job(struct bytes *out)
     equal(out, 2, 3);
     equal(out, 1, 2);
     explain(out, 0, 2);
+    why(out, 0, 2);
     ask(out, 0, 3);
     end(out);
 }
@@ -230,8 +236,11 @@ static void make_small(struct bytes *out, int size, uint64_t seed, long index)
             records--;
         } else {
             int s = random_below(&state, n), t = random_below(&state, n);
-            if (random_below(&state, 3) == 0)
+            int which = random_below(&state, 4);
+            if (which == 0)
                 ask(out, s, t);
+            else if (which == 1)
+                why(out, s, t);
             else
                 explain(out, s, t);
             questions--;
@@ -379,7 +388,9 @@ static void repeat_records(struct bytes *out, int count, int applied)
 static void repeat_questions(struct bytes *out, int count, int explained)
 {
     for (int i = 0; i < count; i++)
-        if (explained == 2 ? i % 2 : explained)
+        if (explained == 2 && i % 5 == 4)
+            why(out, 0, 0);
+        else if (explained == 2 ? i % 2 : explained)
             explain(out, 0, 0);
         else
             ask(out, 0, 0);
@@ -416,10 +427,10 @@ static void limit_units(struct bytes *out, int which)
 static void limit_tag(struct bytes *out, int which)
 {
     static const int kind[] = {KIND_EQUAL, KIND_EQUAL, KIND_APPLY, KIND_APPLY, KIND_APPLY, KIND_ASK, KIND_ASK, KIND_EXPLAIN,
-                               KIND_EXPLAIN, KIND_DIFFER, KIND_DIFFER};
-    static const int where[] = {0, 1, 0, 1, 2, 0, 1, 0, 1, 0, 1};
+                               KIND_EXPLAIN, KIND_DIFFER, KIND_DIFFER, KIND_WHY, KIND_WHY};
+    static const int where[] = {0, 1, 0, 1, 2, 0, 1, 0, 1, 0, 1, 0, 1};
     static const int n[] = {1, 5, 1000};
-    int place = which % 11, over = which / 11 % 2, number[3] = {0, 0, 0}, size = n[which / 22];
+    int place = which % 13, over = which / 13 % 2, number[3] = {0, 0, 0}, size = n[which / 26];
     number[where[place]] = size - 1 + over;
     tags(out, size);
     equal(out, 0, 0);
@@ -430,7 +441,7 @@ static void limit_tag(struct bytes *out, int which)
 /* Several tags of one field at the limit: every choice of those that are too high, in each kind, by one or by many. */
 static void limit_tags_wrong(struct bytes *out, int which)
 {
-    static const int kind[] = {KIND_EQUAL, KIND_APPLY, KIND_ASK, KIND_EXPLAIN, KIND_DIFFER};
+    static const int kind[] = {KIND_EQUAL, KIND_APPLY, KIND_ASK, KIND_EXPLAIN, KIND_DIFFER, KIND_WHY};
     int chosen = which % 8, far = which / 8 % 2, n = 3, number[3];
     for (int i = 0; i < 3; i++)
         number[i] = chosen >> i & 1 ? far ? 65535 - i : n : n - 1;
@@ -565,8 +576,24 @@ static void limit_room(struct bytes *out, int which)
     end(out);
 }
 
-enum { LIMIT_TAGS = 1, LIMIT_TAG = LIMIT_TAGS + 8, LIMIT_WRONG = LIMIT_TAG + 66, LIMIT_COUNTS = LIMIT_WRONG + 80, LIMIT_SHAPES = LIMIT_COUNTS + 28,
-       LIMIT_ROOM = LIMIT_SHAPES + 60, LIMIT_BEHIND = LIMIT_ROOM + 2, LIMIT_UNITS = LIMIT_BEHIND + 2, LIMITS = LIMIT_UNITS + 25 };
+enum { LIMIT_TAGS = 1, LIMIT_TAG = LIMIT_TAGS + 8, LIMIT_WRONG = LIMIT_TAG + 78, LIMIT_COUNTS = LIMIT_WRONG + 96, LIMIT_SHAPES = LIMIT_COUNTS + 28,
+       LIMIT_ROOM = LIMIT_SHAPES + 60, LIMIT_BEHIND = LIMIT_ROOM + 2, LIMIT_UNITS = LIMIT_BEHIND + 2, LIMIT_WHYS = LIMIT_UNITS + 25, LIMITS = LIMIT_WHYS + 4 };
+
+/* 29 whys at N = 1,000 take 58,087 bytes; with 1,906 more, of asks and explains, and the totals the room is full. A 30th does not fit. And N = 1. */
+static void limit_whys(struct bytes *out, int which)
+{
+    int n = which == 3 ? 1 : 1000;
+    tags_and_units(out, n, n / 2);
+    for (int i = 0; n > 1 && i < 600; i++)
+        equal(out, i, i + 200);
+    for (int i = 0; i < 29 + (which == 1); i++)
+        why(out, i % n, i % 3 == 0 ? (i + 200) % n : (7 * i) % n);
+    for (int i = 0; n > 1 && i < 272; i++)
+        ask(out, i, 999 - i);
+    if (which == 2)
+        why(out, 5, 5);
+    end(out);
+}
 
 static long limit_cases(uint64_t seed)
 {
@@ -593,6 +620,8 @@ static void make_limit(struct bytes *out, int size, uint64_t seed, long index)
         limit_shape(out, which - LIMIT_SHAPES);
     else if (which < LIMIT_BEHIND)
         limit_room(out, which - LIMIT_ROOM);
+    else if (which >= LIMIT_WHYS)
+        limit_whys(out, which - LIMIT_WHYS);
     else if (which >= LIMIT_UNITS)
         limit_units(out, which - LIMIT_UNITS);
     else { /* a byte behind the end, and a second end */
@@ -795,6 +824,24 @@ static void make_dense(struct bytes *out, int n, uint64_t seed, long index)
     end(out);
 }
 
+/* Some records, and between them as many whys as 60,000 bytes of room allow. */
+static void make_whys(struct bytes *out, int n, uint64_t seed, long index)
+{
+    uint64_t state = state_of(seed, index);
+    int records = n * (1 + random_below(&state, 3)), each = 3 + 2 * n, count = (LENT_ROOM - 7) / each;
+    if (count > MOST_QUESTIONS)
+        count = MOST_QUESTIONS;
+    any_tags(out, n, &state);
+    for (int i = 0, asked = 0; i < records; i++) {
+        random_record(out, n, 70, 20, &state);
+        while (asked < count && asked * records < i * count) {
+            why(out, random_below(&state, n), random_below(&state, n));
+            asked++;
+        }
+    }
+    end(out);
+}
+
 /* 4,000 records and 1,000 questions between them: few explains, since room is needed for each. */
 static void make_questions(struct bytes *out, int n, uint64_t seed, long index)
 {
@@ -887,6 +934,7 @@ const struct kind kinds[] = {
     {"dense", "4N random records, questions between", 1000, make_dense, NULL},
     {"questions", "4,000 random records, 1,000 questions", 1000, make_questions, NULL},
     {"explains", "4,000 records over few tags, hundreds of explains", 25, make_explains, NULL},
+    {"whys", "random records, whys between them up to 60,000 bytes of room", 1000, make_whys, NULL},
     {"quiet", "applications only, 1,000 asks", 1000, make_quiet, NULL},
     {"pairs", "a chain, 500 pairs that hold, and 06", 1000, make_pairs, NULL},
     {NULL, NULL, 0, NULL, NULL}};

@@ -338,7 +338,7 @@ static int list_fault(const struct record *records, int count, int tags, int s, 
     for (int i = 0; i < count; i++)
         job.record[i + 1] = records[i];
     job.questions = 1;
-    job.question[0] = (struct question){1, s, t, count, 0, 0};
+    job.question[0] = (struct question){1, s, t, count, 0, 0, 0};
     history_of(&history, &job, LITERALLY);
     history_of(&other_history, &job, BY_USE_LISTS);
     int one = reason_fault(&job, &history, 0, numbers, length);

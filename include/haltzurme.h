@@ -47,7 +47,7 @@ enum haltzurme_limit {
     HALTZURME_LONGEST_JOB = 46510,      /* bytes */
     HALTZURME_LONGEST_REPORT = 4001007, /* bytes that are enough room for every job */
     HALTZURME_WORK = 32768,             /* numbers of the work table */
-    HALTZURME_STACK = 131072            /* bytes of stack that a call may need, with a margin; bench/stack measures it */
+    HALTZURME_STACK = 81920             /* bytes of stack that a call may need, with a margin: bench/stack measures 64,728 on the deepest jobs */
 };
 
 /* The kinds of a field, of a job and of a report. */
@@ -59,12 +59,15 @@ enum haltzurme_kind {
     HALTZURME_EXPLAIN = 0x04,
     HALTZURME_DIFFER = 0x05,
     HALTZURME_BROKEN = 0x06,
+    HALTZURME_WHY = 0x07,
     HALTZURME_END = 0x7F,
     HALTZURME_LED = 0x83,
     HALTZURME_REASON = 0x84,
     HALTZURME_APART = 0x85,
     HALTZURME_BREACHED = 0x86,
     HALTZURME_INTACT = 0x87,
+    HALTZURME_PARTED = 0x88,
+    HALTZURME_JOINED = 0x89,
     HALTZURME_TOTALS = 0x8F
 };
 

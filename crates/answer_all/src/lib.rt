@@ -1,6 +1,6 @@
 // The questions of an accepted job, answered one after the other: each by the joins that were made before it, as a field of the
-// report. Document 01, "The job and the report"; document 02, No. 1. Rests on job_field, all_close, report_write, moment, pairs, answer_ask, answer_explain and
-// broken_field.
+// report. Document 01, "The job and the report"; document 02, No. 1. Rests on job_field, all_close, report_write, moment, pairs, answer_ask, answer_explain,
+// answer_broken and answer_why.
 ghost use mathlib.Core.Path.{_≡_};
 ghost use Prim.Native.Nat.{ℕ, _+_, _*_, _-_, _≤_, _<_, min};
 ghost use lib.ListN.{length};
@@ -12,8 +12,9 @@ ghost use Rattle.answer_ask.specs.Facing.{Replied};
 ghost use Rattle.answer_all.specs.Asking.{isEnd, Asked, Asking, Meeting, Onward, Told, Ready, Responded};
 use all_close::close;
 use answer_ask::answer_ask;
+use answer_broken::answer_broken;
 use answer_explain::answer_explain;
-use broken_field::answer_broken;
+use answer_why::answer_why;
 use job_field::Field;
 use job_field::Query;
 use job_field::behind;
@@ -52,6 +53,7 @@ fn answer_question(
         Query::Ask(s, t) => answer_ask(room, work, c, before, out, s, t),
         Query::Explain(s, t) => answer_explain(room, work, c, before, out, s, t),
         Query::Broken => answer_broken(job, room, work, c, before, differs, out),
+        Query::Why(s, t) => answer_why(room, work, c, before, out, s, t),
     }
 }
 

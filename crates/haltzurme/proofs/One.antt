@@ -7,17 +7,19 @@ use mathlib.Core.Path.{_≡_, refl, sym, _∙_, ap₂}
 use mathlib.Core.Logic.{_⊎_, inl, inr}
 use mathlib.Core.List.{List, [], _∷_, _++_}
 use lib.ListN.{length, getD, drop}
-use Rattle.meaning.specs.Following.{UpTo, Leader}
+use Rattle.meaning.specs.Following.{UpTo, Follows, Leader}
+use Rattle.meaning.specs.Looks.{Led}
+use Rattle.meaning.proofs.Looks.{led-one}
 use Rattle.meaning.proofs.Units.{leader-one}
 use Rattle.meaning.proofs.Laws.{classes-one, idles-one, reason-follows}
 use Rattle.meaning.specs.Limits.{namedNumbers, namedPlaces}
-use Rattle.job_field.specs.Items.{Head, Matter, matterOf, Moment, start, after, ask, broken, Item, posed, Reading, refused, accepted, neededRoom}
+use Rattle.job_field.specs.Items.{Head, Matter, matterOf, Moment, start, after, ask, broken, why, Item, posed, Reading, refused, accepted, neededRoom}
 use Rattle.job_field.specs.Reading.{reading}
 use Rattle.records.specs.declared.Record.{Record}
 use Rattle.records.specs.Table.{blank, Blanked}
 use Rattle.report.specs.Broken.{Earliest, PairReason}
 use Rattle.report.proofs.Broken.{earliest-one, earliest-some}
-use Rattle.report.specs.Report.{numbers, field, led, because, apart, breached, intact, Totalled, total, Sound, totals, passed, answered}
+use Rattle.report.specs.Report.{numbers, field, led, because, apart, breached, intact, parted, joined, Totalled, total, Sound, totals, passed, answered}
 use Rattle.call_look.specs.Clear.{Cleared}
 use Rattle.call_look.specs.Lent.{Lent}
 use Rattle.haltzurme.specs.Run.{Ran, long, narrow, unread, cramped, done}
@@ -52,6 +54,10 @@ breach-alike {k = k} {k′ = k′} {L = L} {L′ = L′} e e′ r r′ a =
     let i : k ≡ k′ = earliest-one e e′ in
     rw i (alike.breached {k = k′} {L = L} {L′ = L′} e′ (rw i at r) r′ a)
 
+parted-alike : {M : Matter} {b : Moment} {s t : ℕ} {L L′ : List ℕ} {is : List Item} {bs bs′ : List ℕ} → (Follows (UpTo (M .records) (b .records)) s t → ⊥) → Led (M .head .size) (M .head .units) (UpTo (M .records) (b .records)) L′ → L ≡ L′
+    → Alike M (after (posed (why s t)) b) is bs bs′ → Alike M b (posed (why s t) ∷ is) (field 136 (numbers L) ++ bs) (field 136 (numbers L′) ++ bs′)
+parted-alike n d p a = rw p (alike.answered (parted n d) a)
+
 -- Two sound reports of the same items differ at most in the choice among reasons.
 pub sound-alike : {M : Matter} {b : Moment} {is : List Item} {bs bs′ : List ℕ} → Sound M b is bs → Sound M b is bs′ → Alike M b is bs bs′
 sound-alike (totals t) (totals u) = rw (totalled-one t u) (alike.totals u)
@@ -65,6 +71,10 @@ sound-alike (answered (breached e r) s) (answered (breached e′ r′) u) = brea
 sound-alike (answered (breached e r) s) (answered (intact n) u) = absurd (earliest-some e n)
 sound-alike (answered (intact n) s) (answered (breached e r) u) = absurd (earliest-some e n)
 sound-alike (answered (intact n) s) (answered (intact n′) u) = alike.answered (intact n) (sound-alike s u)
+sound-alike (answered (parted n d) s) (answered (parted n′ d′) u) = parted-alike n′ d′ (led-one d d′) (sound-alike s u)
+sound-alike (answered (parted n d) s) (answered (joined f) u) = absurd (n f)
+sound-alike (answered (joined f) s) (answered (parted n d) u) = absurd (n f)
+sound-alike (answered (joined f) s) (answered (joined f′) u) = alike.answered (joined f) (sound-alike s u)
 
 -- What is long enough is not short.
 pub lent-not : {job : List ℕ} {records : List Record} {work : List ℕ} → Lent job records work → (length records < namedPlaces) ⊎ (length work < namedNumbers) → ⊥

@@ -8,7 +8,7 @@ use mathlib.Core.List.{List, [], _∷_}
 use lib.Dec.{eqb, ltb, leb}
 use lib.ListN.{length}
 use Rattle.meaning.specs.Following.{eq, app}
-use Rattle.job_field.specs.Items.{Head, unsized, Moment, start, after, line, differ, ask, explain, broken, noted, posed, Item, tagsOf, Reading, refused, accepted}
+use Rattle.job_field.specs.Items.{Head, unsized, Moment, start, after, line, differ, ask, explain, broken, why, noted, posed, Item, tagsOf, Reading, refused, accepted}
 use Rattle.job_field.specs.Reading.{Kind, first, first-units, unknown, Field, bad, header, item, end, known, lengthAt, behindAt, bodyLength, bodyAt, orElse, ofKind, fieldAt, kindAt, byteAt, checked, counted, sized, fieldTags, tagged, with, behind, onward, readFrom, reading}
 use Rattle.job_field.proofs.Reading.{body-later}
 
@@ -59,6 +59,7 @@ tags-few (item (noted (differ a b))) = omega arith
 tags-few (item (posed (ask s t))) = omega arith
 tags-few (item (posed (explain s t))) = omega arith
 tags-few (item (posed broken)) = omega arith
+tags-few (item (posed (why s t))) = omega arith
 tags-few end = omega arith
 
 tagged-bad : (N n : ℕ) (ts : List ℕ) (f : Field) (m : ℕ) → 11 ≤ n → n + length ts ≤ 14 → (f ≡ bad m → InRange m) → tagged N n ts f ≡ bad m → InRange m

@@ -12,7 +12,7 @@ use lib.ListN.{length}
 use Rattle.meaning.specs.Limits.{mostTags}
 use Rattle.job_field.specs.Items.{Head, Moment, start, after, Item, Reading, refused, accepted}
 use Rattle.job_field.specs.Standing.{Below}
-use Rattle.job_field.specs.Reading.{Kind, record-eq, record-app, note-differ, question-ask, question-explain, question-broken, last, Field, bad, header, item, end, known, bodyLength, bodyAt, laterKind, kindAt, byteAt, lengthAt, behindAt, orElse, ofKind, fieldAt, counted, sizeRight, sized, fieldTags, tagged, checked, with, behind, onward, readFrom}
+use Rattle.job_field.specs.Reading.{Kind, record-eq, record-app, note-differ, question-ask, question-explain, question-broken, question-why, last, Field, bad, header, item, end, known, bodyLength, bodyAt, laterKind, kindAt, byteAt, lengthAt, behindAt, orElse, ofKind, fieldAt, counted, sizeRight, sized, fieldTags, tagged, checked, with, behind, onward, readFrom}
 
 -- A field that is not refused.
 abbrev pub Sound : Field → Type 0
@@ -87,7 +87,7 @@ record Later (job : List ℕ) (at : ℕ) (k : Kind) : Type 0 where
   says : NotFirst (bodyAt job at k)
 
 later-says : (job : List ℕ) (at b : ℕ) → Later job at (laterKind b)
-later-says job at b = or (eqb b 1) record-eq tt (or (eqb b 2) record-app tt (or (eqb b 3) question-ask tt (or (eqb b 4) question-explain tt (or (eqb b 5) note-differ tt (or (eqb b 6) question-broken tt (or (eqb b 127) last tt (record { says = refl })))))))
+later-says job at b = or (eqb b 1) record-eq tt (or (eqb b 2) record-app tt (or (eqb b 3) question-ask tt (or (eqb b 4) question-explain tt (or (eqb b 5) note-differ tt (or (eqb b 6) question-broken tt (or (eqb b 7) question-why tt (or (eqb b 127) last tt (record { says = refl }))))))))
   where
     or : {l : Kind} (p : Bool) (k : Kind) → NotFirst (bodyAt job at k) → Later job at l → Later job at (cond p k l)
     or true k h i = record { says = h }

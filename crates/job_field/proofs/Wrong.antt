@@ -10,7 +10,7 @@ use borrow.Author.Tests.{ltb-true, ltb-false}
 use lib.Dec.{ltb, leb}
 use lib.ListN.{length}
 use Rattle.job_field.specs.Items.{Head, unsized, Moment, start, after, Item, tagsOf, Reading, refused, accepted}
-use Rattle.job_field.specs.Reading.{Kind, first, first-units, record-eq, record-app, note-differ, question-ask, question-explain, question-broken, last, unknown, Field, bad, header, item, end, numberAt, byteAt, lengthAt, bodyAt, kindAt, behindAt, orElse, fieldAt, counted, sized, fieldTags, tagged, checked, offsetOf, behind, onward, readFrom, reading}
+use Rattle.job_field.specs.Reading.{Kind, first, first-units, record-eq, record-app, note-differ, question-ask, question-explain, question-broken, question-why, last, unknown, Field, bad, header, item, end, numberAt, byteAt, lengthAt, bodyAt, kindAt, behindAt, orElse, fieldAt, counted, sized, fieldTags, tagged, checked, offsetOf, behind, onward, readFrom, reading}
 use Rattle.job_field.specs.Wrong.{Wrong}
 use Rattle.job_field.proofs.Reading.{field-passed, checked-passed, header-first}
 use Rattle.job_field.proofs.Numbers.{or-bad, field-bad, tags-few, with-refused}
@@ -30,6 +30,7 @@ body-tags job at note-differ = (refl, (refl, tt))
 body-tags job at question-ask = (refl, (refl, tt))
 body-tags job at question-explain = (refl, (refl, tt))
 body-tags job at question-broken = tt
+body-tags job at question-why = (refl, (refl, tt))
 body-tags job at last = tt
 body-tags job at unknown = tt
 

@@ -30,11 +30,12 @@ abbrev pub pairsIn : Note → List Pair
 pairsIn (line r) = []
 pairsIn (differ a b) = record { first = a; second = b } ∷ []
 
--- The questions: 03 ask, 04 explain, on s and t; 06, which pair that must differ is broken.
+-- The questions: 03 ask, 04 explain, 07 why it is a no (document 02, No. 7), on s and t; 06, which pair that must differ is broken.
 pub data Question : Type 0 where
   ask : ℕ → ℕ → Question
   explain : ℕ → ℕ → Question
   broken : Question
+  why : ℕ → ℕ → Question
 
 -- A field behind the first one: a note or a question.
 pub data Item : Type 0 where
@@ -91,11 +92,12 @@ abbrev pub after : Item → Moment → Moment
 after (noted n) b = record { records = b .records + length (standsFor n); differs = b .differs + length (pairsIn n); questions = b .questions }
 after (posed q) b = record { records = b .records; differs = b .differs; questions = b .questions + 1 }
 
--- The room that a question needs, with R the records before it: 7 bytes for an ask; 3 + 2·min(R, 2(N-1)) for an explain; 5 + 2·min(R, 2(N-1)) for a 06.
+-- The room that a question needs, with R the records before it: 7 bytes for an ask; 3 + 2·min(R, 2(N-1)) for an explain; 5 + 2·min(R, 2(N-1)) for a 06; 3 + 2N for a why.
 abbrev pub roomOf : Head → Moment → Question → ℕ
 roomOf H b (ask s t) = 7
 roomOf H b (explain s t) = 3 + 2 * min (b .records) (2 * (H .size - 1))
 roomOf H b broken = 5 + 2 * min (b .records) (2 * (H .size - 1))
+roomOf H b (why s t) = 3 + 2 * H .size
 
 -- Needed room: that of each question at its moment, and 7 for the totals.
 abbrev pub neededRoom : Head → Moment → List Item → ℕ
@@ -125,6 +127,7 @@ abbrev pub tagsOfQuestion : Question → List ℕ
 tagsOfQuestion (ask s t) = s ∷ t ∷ []
 tagsOfQuestion (explain s t) = s ∷ t ∷ []
 tagsOfQuestion broken = []
+tagsOfQuestion (why s t) = s ∷ t ∷ []
 
 abbrev pub tagsOf : Item → List ℕ
 tagsOf (noted n) = tagsOfNote n

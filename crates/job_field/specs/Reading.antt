@@ -1,5 +1,5 @@
 -- Document 01, "The job and the report" and "What is lent, and each refusal": the job is read front to back, one field at a time,
--- and every byte string is accepted or refused by number and place. Document 02, No. 1: kinds 05 and 06; No. 2: which number was wrong; No. 3: a header with U.
+-- and every byte string is accepted or refused by number and place. Document 02, No. 1: kinds 05 and 06; No. 2: which number was wrong; No. 3: a header with U; No. 7: kind 07.
 -- Assumes nothing.
 use Prim.Native.Nat.{ℕ, zero, suc, _+_, _*_}
 use mathlib.Core.Bool.{Bool, true, false, cond, _&&_}
@@ -8,7 +8,7 @@ use lib.Dec.{eqb, ltb, leb}
 use lib.ListN.{length, getD}
 use Rattle.meaning.specs.Following.{eq, app}
 use Rattle.meaning.specs.Limits.{mostDiffers, mostQuestions, mostRecords, mostTags}
-use Rattle.job_field.specs.Items.{Head, line, differ, pairsIn, Item, noted, posed, ask, explain, broken, standsFor, tagsOf, Moment, start, after, Reading, refused, accepted, unsized, headOf, itemsOf, Matter, matterOf}
+use Rattle.job_field.specs.Items.{Head, line, differ, pairsIn, Item, noted, posed, ask, explain, broken, why, standsFor, tagsOf, Moment, start, after, Reading, refused, accepted, unsized, headOf, itemsOf, Matter, matterOf}
 
 -- All numbers are two bytes, high byte first.
 abbrev pub byteAt : List ℕ → ℕ → ℕ
@@ -19,7 +19,7 @@ numberAt job at = byteAt job at * 256 + byteAt job (at + 1)
 
 -- The kinds of the job's table, and one more for a byte that is no kind there.
 pub data Kind : Type 0 where
-  first first-units record-eq record-app note-differ question-ask question-explain question-broken last unknown : Kind
+  first first-units record-eq record-app note-differ question-ask question-explain question-broken question-why last unknown : Kind
 
 -- What a field says: nothing, with the number of its refusal; what the first field says; an item; that the job ends.
 pub data Field : Type 0 where
@@ -42,12 +42,13 @@ laterKind b =
     (cond (eqb b 4) question-explain
     (cond (eqb b 5) note-differ
     (cond (eqb b 6) question-broken
-    (cond (eqb b 127) last unknown))))))
+    (cond (eqb b 7) question-why
+    (cond (eqb b 127) last unknown)))))))
 
 abbrev pub kindAt : ℕ → ℕ → ℕ → Kind
 kindAt at b n = cond (eqb at 0) (firstKind b n) (laterKind b)
 
--- The bytes of each kind's body: N; N, U; a, b; a, b, c; a, b; s, t; s, t; none; none.
+-- The bytes of each kind's body: N; N, U; a, b; a, b, c; a, b; s, t; s, t; s, t; none; none.
 abbrev pub bodyLength : Kind → ℕ
 bodyLength first = 2
 bodyLength first-units = 4
@@ -57,6 +58,7 @@ bodyLength note-differ = 4
 bodyLength question-ask = 4
 bodyLength question-explain = 4
 bodyLength question-broken = 0
+bodyLength question-why = 4
 bodyLength last = 0
 bodyLength unknown = 0
 
@@ -70,6 +72,7 @@ says note-differ a b c = item (noted (differ a b))
 says question-ask a b c = item (posed (ask a b))
 says question-explain a b c = item (posed (explain a b))
 says question-broken a b c = item (posed broken)
+says question-why a b c = item (posed (why a b))
 says last a b c = end
 says unknown a b c = bad 4
 
@@ -83,6 +86,7 @@ known note-differ = true
 known question-ask = true
 known question-explain = true
 known question-broken = true
+known question-why = true
 known last = true
 known unknown = false
 

@@ -73,6 +73,7 @@ pub enum Kind {
     Explained,
     Differed,
     Breaking,
+    Doubted,
     Last,
     Unknown,
 }
@@ -89,6 +90,7 @@ pub enum Query {
     Ask(Tag, Tag),
     Explain(Tag, Tag),
     Broken,
+    Why(Tag, Tag),
 }
 
 // What stands at a place of a job. A new kind is a new `Line` or `Query`: here the cases stay these five.
@@ -127,6 +129,7 @@ fn later_kind(byte: u8) -> Kind
         0x04 => Kind::Explained,
         0x05 => Kind::Differed,
         0x06 => Kind::Breaking,
+        0x07 => Kind::Doubted,
         0x7F => Kind::Last,
         _ => Kind::Unknown,
     }
@@ -145,6 +148,7 @@ fn is_known(kind: Kind) -> bool
         Kind::Explained => true,
         Kind::Differed => true,
         Kind::Breaking => true,
+        Kind::Doubted => true,
         Kind::Last => true,
         Kind::Unknown => false,
     }
@@ -163,6 +167,7 @@ fn body_length(kind: Kind) -> u16
         Kind::Explained => 4,
         Kind::Differed => 4,
         Kind::Breaking => 0,
+        Kind::Doubted => 4,
         Kind::Last => 0,
         Kind::Unknown => 0,
     }
@@ -235,6 +240,7 @@ fn meant(kind: Kind, a: u16, b: u16, c: u16) -> Field
         Kind::Explained => Field::Posed(Query::Explain(x, y)),
         Kind::Differed => Field::Noted(Line::Differ(x, y)),
         Kind::Breaking => Field::Posed(Query::Broken),
+        Kind::Doubted => Field::Posed(Query::Why(x, y)),
         Kind::Last => Field::End,
         Kind::Unknown => Field::Bad(Fault::Misplaced),
     }

@@ -132,6 +132,7 @@ fn question_tags(q: Query) -> Tags
         Query::Ask(s, t) => Tags::Two(s, t),
         Query::Explain(s, t) => Tags::Two(s, t),
         Query::Broken => Tags::None,
+        Query::Why(s, t) => Tags::Two(s, t),
     }
 }
 

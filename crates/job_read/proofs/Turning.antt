@@ -6,7 +6,7 @@ use mathlib.Core.Path.{_≡_, refl, sym, _∙_, ap, subst}
 use mathlib.Core.List.{List}
 use lib.ListN.{length}
 use Rattle.meaning.specs.Limits.{mostTags}
-use Rattle.job_field.specs.Items.{Head, Note, Moment, start, after, Question, ask, explain, broken, noted, posed, roomOf, Reading, refused, accepted, recordsOf, questionsOf, neededRoom}
+use Rattle.job_field.specs.Items.{Head, Note, Moment, start, after, Question, ask, explain, broken, why, noted, posed, roomOf, Reading, refused, accepted, recordsOf, questionsOf, neededRoom}
 use Rattle.job_field.specs.Reading.{Field, bad, header, item, end, offsetOf, behindAt, fieldAt, checked, with, behind, onward, readFrom, reading}
 use Rattle.job_field.proofs.Items.{after-records, after-questions}
 use Rattle.job_field.proofs.Reading.{Sound, Passed, checked-passed, field-whole, Sized, read-sized, size-right}
@@ -43,6 +43,7 @@ room-most : (H : Head) (b : Moment) (q : Question) → H .size ≤ mostTags → 
 room-most H b (ask s t) h = omega arith
 room-most H b (explain s t) h = omega arith
 room-most H b broken h = omega arith
+room-most H b (why s t) h = omega arith
 
 -- One field more, by what it says.
 abbrev pub Next : List ℕ → Seen → Field → Type 0

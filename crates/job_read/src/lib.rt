@@ -83,10 +83,12 @@ fn room_of(top: Top, c: Counts, q: Query) -> usize
     ensures { λ r. ⌜ (r ≡ roomOf (headOf top) (momentOf c) (questionSaid q)) × (r ≤ 4 * mostTags + 1) ⌝ }
 {
     let most = most_numbers(top.size, c.records);
+    let all = wide(top.size);
     match q {
         Query::Ask(_, _) => ROOM_OF_ASK,
         Query::Explain(_, _) => 3 + 2 * most,
         Query::Broken => 5 + 2 * most,
+        Query::Why(_, _) => 3 + 2 * all,
     }
 }
 

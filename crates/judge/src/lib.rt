@@ -1,6 +1,6 @@
 // The judge of a report against its job, over the table that the closure left. Document 01, "What is lent, and each refusal": the
 // report fields are compared in order, and the judge stops at the first that is at fault. Document 02, No. 1. Rests on job_field, report_read, moment, pairs,
-// answer_ask, judge_explain and broken_test.
+// answer_ask, judge_explain and judge_broken.
 ghost use mathlib.Core.Path.{_≡_};
 ghost use Prim.Native.Nat.{_≤_, _<_};
 ghost use lib.ListN.{length};
@@ -12,7 +12,7 @@ ghost use Rattle.judge.specs.Testing.{Testing, Tested};
 ghost use Rattle.judge.specs.Going.{Going, Advanced, behind};
 use answer_ask::Passed;
 use answer_ask::led;
-use broken_test::checked;
+use answer_why::doubted;
 use job_field::Field;
 use job_field::Query;
 use job_field::behind;
@@ -20,6 +20,7 @@ use job_field::pairs_in;
 use job_field::stands_for;
 use job_field::units;
 use job_field::wide;
+use judge_broken::checked;
 use judge_explain::explained;
 use meaning::Tag;
 use moment::Closed as Left;
@@ -131,6 +132,7 @@ fn tested(
         Query::Ask(a, b) => led(report, place, work, posed(closed, before, a, b)),
         Query::Explain(a, b) => explained(report, place, work, posed(closed, before, a, b)),
         Query::Broken => checked(job, report, place, work, left(closed), before, differs),
+        Query::Why(a, b) => doubted(report, place, work, posed(closed, before, a, b)),
     }
 }
 

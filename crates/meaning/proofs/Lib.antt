@@ -11,6 +11,7 @@ pub mod Exact
 pub mod Decide
 pub mod Laws
 pub mod Units
+pub mod Looks
 pub mod Cases
 pub mod Forest
 pub mod Walk

@@ -6,6 +6,7 @@ pub mod Labels
 pub mod Seats
 pub mod Trim
 pub mod Totals
+pub mod Looks
 pub mod Cases
 pub mod Forest
 pub mod Walk

@@ -1,6 +1,6 @@
 // Following a reason through the joins: across the newest join between two tags, along both sides of it and into its argument pairs,
 // all of which rest on older joins. Document 01, "Reasons". What waits to be followed stands in the work table, and the one function
-// that calls itself has nothing left to do behind that call, so that the stack does not grow with the job (document 02, No. 5). Rests on moment and table.
+// that calls itself keeps little for that call, so that less stack is needed (document 02, No. 5; bench/stack measures it). Rests on moment and table.
 ghost use mathlib.Core.Path.{_≡_};
 ghost use mathlib.Core.Logic.{_≢_};
 ghost use Prim.Native.Nat.{ℕ, suc, _+_, _≤_, _<_};
@@ -251,7 +251,7 @@ fn rest(work: &mut [u16], b: usize)
 }
 
 // Follows the argument pairs of the marked joins older than `limit`, from the newest down: those of a join rest on joins older than itself. This is the recursion that
-// document 01 names; nothing is left to do behind the call of itself, so that it needs no stack.
+// document 01 names, and the only one here.
 fn rest_all(work: &mut [u16], limit: usize)
     requires { ⌜ Holds (now work) limit ⌝ }
     ensures { λ _. ⌜ Swept (now (work .entry)) (now (work .exit)) limit ⌝ }

@@ -7,7 +7,7 @@ use mathlib.Core.Path.{_≡_, refl, sym, _∙_, subst}
 use mathlib.Core.List.{List, [], _∷_, _++_, append-nil}
 use lib.ListN.{length, length-append}
 use Rattle.job_field.specs.Items.{Matter, Moment, Question, Item}
-use Rattle.report.specs.Report.{numbers, field, Answers, led, because, apart, breached, intact, Totalled, total, Sound, totals, passed, answered}
+use Rattle.report.specs.Report.{numbers, field, Answers, led, because, apart, breached, intact, parted, joined, Totalled, total, Sound, totals, passed, answered}
 use Rattle.report.specs.Fault.{Stands, stands, FaultAt, past, behind, wrong, closing, spare}
 use Rattle.report.proofs.Bytes.{field-one}
 
@@ -23,6 +23,8 @@ answers-field (because {L = L} r) = record { kind = 132; body = numbers L; is = 
 answers-field (apart h) = record { kind = 133; body = []; is = refl }
 answers-field (breached {k = k} {L = L} e r) = record { kind = 134; body = numbers (k ∷ L); is = refl }
 answers-field (intact u) = record { kind = 135; body = []; is = refl }
+answers-field (parted {L = L} h d) = record { kind = 136; body = numbers L; is = refl }
+answers-field (joined h) = record { kind = 137; body = []; is = refl }
 
 pub totalled-field : {M : Matter} {f : List ℕ} → Totalled M f → Fielded f
 totalled-field (total {c} {i} h k) = record { kind = 143; body = numbers (c ∷ i ∷ []); is = refl }

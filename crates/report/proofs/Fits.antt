@@ -10,7 +10,7 @@ use Rattle.meaning.specs.Following.{Rec}
 use Rattle.meaning.specs.Reasons.{Above, Reason}
 use Rattle.meaning.proofs.Laws.{reason-short}
 use Rattle.job_field.specs.Items.{Matter, Moment, Question, roomOf, Item, neededRoom}
-use Rattle.report.specs.Report.{numbers, Answers, led, because, apart, breached, intact, Totalled, total, Sound, totals, passed, answered}
+use Rattle.report.specs.Report.{numbers, Answers, led, because, apart, breached, intact, parted, joined, Totalled, total, Sound, totals, passed, answered}
 use Rattle.report.proofs.Bytes.{length-numbers, length-field}
 
 -- Rising numbers above m and up to R are at most R - m many.
@@ -27,6 +27,8 @@ answers-fits {M} {b} (because {L = L} r) = omega (arith, length-field 132 (numbe
 answers-fits (apart h) = omega (arith, length-field 133 [])
 answers-fits {M} {b} (breached {k = k} {L = L} e r) = omega (arith, length-field 134 (numbers (k ∷ L)), length-numbers (k ∷ L), reason-few r)
 answers-fits (intact u) = omega (arith, length-field 135 [])
+answers-fits {M} {b} (parted {L = L} h d) = omega (arith, length-field 136 (numbers L), length-numbers L, d .full)
+answers-fits (joined h) = omega (arith, length-field 137 [])
 
 pub totalled-length : {M : Matter} {bs : List ℕ} → Totalled M bs → length bs ≡ 7
 totalled-length (total {c} {i} h k) = omega (arith, length-field 143 (numbers (c ∷ i ∷ [])), length-numbers (c ∷ i ∷ []))

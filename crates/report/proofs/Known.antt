@@ -5,8 +5,8 @@ use Prim.Native.Nat.{ℕ}
 use mathlib.Core.Path.{_≡_, refl}
 use mathlib.Core.List.{List}
 use Rattle.meaning.specs.Following.{Rec}
-use Rattle.job_field.specs.Items.{Head, Matter, Moment, Question, ask, explain, broken, roomOf}
-use Rattle.report.specs.Report.{Answers, led, because, apart, Known, tabled, afterRecords}
+use Rattle.job_field.specs.Items.{Head, Matter, Moment, Question, ask, explain, broken, why, roomOf}
+use Rattle.report.specs.Report.{Answers, led, because, apart, parted, joined, Known, tabled, afterRecords}
 use Rattle.report.specs.Fault.{Stands, stands}
 
 pub stands-map : {P Q : List ℕ → Type 0} {bs : List ℕ} → ((f : List ℕ) → P f → Q f) → Stands P bs → Stands Q bs
@@ -27,8 +27,17 @@ module _ {M : Matter} {b : Moment} {H : Head} {rs : List Rec} {R : ℕ} (K : Kno
   explain-tabled f (because r) = because (rw (K .head, K .records, K .before) at r)
   explain-tabled f (apart h) = apart (rw (K .records, K .before) at h)
 
+  pub why-known : (f : List ℕ) → Answers (tabled H rs) (afterRecords R) (why s t) f → Answers M b (why s t) f
+  why-known f (parted {L = L} h d) = parted {s = s} {t = t} {L = L} (rw (K .records, K .before) h) (rw (K .head, K .records, K .before) d)
+  why-known f (joined h) = joined {s = s} {t = t} (rw (K .records, K .before) h)
+
+  pub why-tabled : (f : List ℕ) → Answers M b (why s t) f → Answers (tabled H rs) (afterRecords R) (why s t) f
+  why-tabled f (parted h d) = parted (rw (K .records, K .before) at h) (rw (K .head, K .records, K .before) at d)
+  why-tabled f (joined h) = joined (rw (K .records, K .before) at h)
+
 -- So with the room that a question needs.
 pub room-known : (H : Head) (b : Moment) (H′ : Head) (R : ℕ) (q : Question) → H ≡ H′ → b .records ≡ R → roomOf H b q ≡ roomOf H′ (afterRecords R) q
 room-known H b H′ R (ask s t) e d = refl
 room-known H b H′ R (explain s t) e d = rw (e, d)
 room-known H b H′ R broken e d = rw (e, d)
+room-known H b H′ R (why s t) e d = rw e

@@ -6,9 +6,10 @@ use mathlib.Core.Path.{_≡_}
 use mathlib.Core.List.{List, [], _∷_, _++_}
 use lib.ListN.{length, take, drop}
 use Rattle.meaning.specs.Following.{Rec, Follows, UpTo, Leader}
+use Rattle.meaning.specs.Looks.{Led}
 use Rattle.meaning.specs.Reasons.{Reason}
 use Rattle.meaning.specs.Totals.{Classes, Idles}
-use Rattle.job_field.specs.Items.{Head, Matter, Note, Moment, after, Question, ask, explain, broken, Item, noted, posed}
+use Rattle.job_field.specs.Items.{Head, Matter, Note, Moment, after, Question, ask, explain, broken, why, Item, noted, posed}
 use Rattle.report.specs.Broken.{Earliest, Unbroken, PairReason}
 
 -- All numbers are two bytes, high byte first.
@@ -28,13 +29,16 @@ field kind body = front kind (length body) ++ body
 
 -- The right fields for a question at its moment: of the job's records, those before the question decide. 83 hex (131): leader of s,
 -- leader of t. 84 (132): the reason's record numbers. 85 (133): none, the equality does not follow. 86 (134): the number of the earliest
--- broken pair that must differ, and a reason why its tags are equal. 87 (135): none, where no pair is broken.
+-- broken pair that must differ, and a reason why its tags are equal. 87 (135): none, where no pair is broken. Document 02, No. 7: "if the equality does
+-- not follow, report kind 88 (136) with the leader of every tag in order, N numbers; otherwise 89 (137) with no body".
 pub data Answers (M : Matter) (b : Moment) : Question → List ℕ → Type 0 where
   led : {s t l m : ℕ} → Leader (M .head .units) (UpTo (M .records) (b .records)) s l → Leader (M .head .units) (UpTo (M .records) (b .records)) t m → Answers M b (ask s t) (field 131 (numbers (l ∷ m ∷ [])))
   because : {s t : ℕ} {L : List ℕ} → Reason (M .head .size) (M .records) (b .records) s t L → Answers M b (explain s t) (field 132 (numbers L))
   apart : {s t : ℕ} → (Follows (UpTo (M .records) (b .records)) s t → ⊥) → Answers M b (explain s t) (field 133 [])
   breached : {k : ℕ} {L : List ℕ} → Earliest (M .records) (b .records) (M .pairs) (b .differs) k → PairReason M b k L → Answers M b broken (field 134 (numbers (k ∷ L)))
   intact : Unbroken (M .records) (b .records) (M .pairs) (b .differs) → Answers M b broken (field 135 [])
+  parted : {s t : ℕ} {L : List ℕ} → (Follows (UpTo (M .records) (b .records)) s t → ⊥) → Led (M .head .size) (M .head .units) (UpTo (M .records) (b .records)) L → Answers M b (why s t) (field 136 (numbers L))
+  joined : {s t : ℕ} → Follows (UpTo (M .records) (b .records)) s t → Answers M b (why s t) (field 137 [])
 
 -- 8F (143): number of classes, number of idle records, at the end of the job.
 pub data Totalled (M : Matter) : List ℕ → Type 0 where

@@ -36,29 +36,29 @@ list-more w i n l k =
 pub list-read-more : (report : List ℕ) (at i : ℕ) (w₀ w w′ : List ℕ) → i < mostRecords → Large w → ListRead report at i w₀ w → Placed report (at + 2 * i) i w w′ → ListRead report at (i + 1) w₀ w′
 list-read-more report at i w₀ w w′ l k h p = record {
   kept = within-trans (h .kept) (rw (p .stored) (within-set (allOf LIST) w (LIST .at + i) (p .number) (omega arith) (omega arith)));
-  read = rw (p .stored, list-more w i (p .number) l k) (holds-both report at (numbers (listIn i w)) (two (p .number)) (h .read) (rw (length-list w i) (p .stands)));
+  read = rw (p .stored, list-more w i (p .number) l k) (holds-both report at (numbers (listIn i w)) (two (p .number)) (h .read) (rw (length-list (listOf w) i) (p .stands)));
 }
 
--- The numbers of a list, one by one.
-pub list-held-none : (report : List ℕ) (at : ℕ) (w : List ℕ) → Holds report at (numbers (listIn 0 w))
+-- Numbers by their places, one by one.
+pub list-held-none : (report : List ℕ) (at : ℕ) (f : ℕ → ℕ) → Holds report at (numbers (gather f 0))
 unfolding numbers
-list-held-none report at w = holds-none report at
+list-held-none report at f = holds-none report at
 
-list-split : (w : List ℕ) (i : ℕ) → numbers (listIn (i + 1) w) ≡ numbers (listIn i w) ++ two (listOf w i)
+list-split : (f : ℕ → ℕ) (i : ℕ) → numbers (gather f (i + 1)) ≡ numbers (gather f i) ++ two (f i)
 unfolding numbers two
-list-split w i = rw add-one (numbers-append (listIn i w) (listOf w i ∷ []))
+list-split f i = rw add-one (numbers-append (gather f i) (f i ∷ []))
 
-module _ (report : List ℕ) (at : ℕ) (w : List ℕ) where
-  pub list-held-more : (i : ℕ) → Holds report at (numbers (listIn i w)) → Holds report (at + 2 * i) (two (listOf w i)) → Holds report at (numbers (listIn (i + 1) w))
-  list-held-more i h k = rw (list-split w i) (holds-both report at (numbers (listIn i w)) (two (listOf w i)) h (rw (length-list w i) k))
+module _ (report : List ℕ) (at : ℕ) (f : ℕ → ℕ) where
+  pub list-held-more : (i : ℕ) → Holds report at (numbers (gather f i)) → Holds report (at + 2 * i) (two (f i)) → Holds report at (numbers (gather f (i + 1)))
+  list-held-more i h k = rw (list-split f i) (holds-both report at (numbers (gather f i)) (two (f i)) h (rw (length-list f i) k))
 
-  pub list-held-at : (n i : ℕ) → i < n → Holds report at (numbers (listIn n w)) → Holds report (at + 2 * i) (two (listOf w i))
+  pub list-held-at : (n i : ℕ) → i < n → Holds report at (numbers (gather f n)) → Holds report (at + 2 * i) (two (f i))
   list-held-at zero i l h = absurd (omega arith)
   list-held-at (suc n) i l h = go (list-held-at n i) (ℕ-discrete i n)
     where
-      both : Holds report at (numbers (listIn n w) ++ two (listOf w n))
-      both = let e : n + 1 ≡ suc n = omega arith in rw (← list-split w n, e) h
+      both : Holds report at (numbers (gather f n) ++ two (f n))
+      both = let e : n + 1 ≡ suc n = omega arith in rw (← list-split f n, e) h
 
-      go : (i < n → Holds report at (numbers (listIn n w)) → Holds report (at + 2 * i) (two (listOf w i))) → Dec (i ≡ n) → Holds report (at + 2 * i) (two (listOf w i))
-      go r (yes q) = rw q (rw (length-list w n) at (holds-behind report at (numbers (listIn n w)) (two (listOf w n)) both))
-      go r (no q) = r (omega arith) (holds-front report at (numbers (listIn n w)) (two (listOf w n)) both)
+      go : (i < n → Holds report at (numbers (gather f n)) → Holds report (at + 2 * i) (two (f i))) → Dec (i ≡ n) → Holds report (at + 2 * i) (two (f i))
+      go r (yes q) = rw q (rw (length-list f n) at (holds-behind report at (numbers (gather f n)) (two (f n)) both))
+      go r (no q) = r (omega arith) (holds-front report at (numbers (gather f n)) (two (f n)) both)

@@ -11,19 +11,21 @@ use lib.Dec.{leb}
 use lib.ListN.{length, take, drop, length-append, take-append-drop}
 use lib.Seq.{take-append-seam, length-take-le}
 use Rattle.meaning.specs.Following.{Rec, UpTo, Least, Leader, Follows}
+use Rattle.meaning.specs.Looks.{Led}
 use Rattle.meaning.specs.Reasons.{Reason}
 use Rattle.meaning.specs.Totals.{Classes, Idle, Idles}
 use Rattle.meaning.proofs.Decide.{upTo-test, decUpTo, decLeast, decIdle, countIt}
 use Rattle.meaning.proofs.Laws.{reason-decided}
+use Rattle.meaning.proofs.Looks.{led-there}
 use Rattle.meaning.proofs.Units.{leader-there}
-use Rattle.job_field.specs.Items.{Matter, Moment, after, Question, ask, explain, broken, Item, noted, posed}
-use Rattle.report.specs.Report.{two, numbers, front, field, Answers, led, because, apart, breached, intact, Totalled, total, Sound, totals, passed, answered}
+use Rattle.job_field.specs.Items.{Matter, Moment, after, Question, ask, explain, broken, why, Item, noted, posed}
+use Rattle.report.specs.Report.{two, numbers, front, field, Answers, led, because, apart, breached, intact, parted, joined, Totalled, total, Sound, totals, passed, answered}
 use Rattle.report.specs.Broken.{pairNo, Earliest, Unbroken, PairReason}
 use Rattle.report.proofs.Broken.{earliest-or}
 use Rattle.report.specs.Fault.{Stands, stands, FaultAt, past, behind, wrong, closing, spare}
 use Rattle.report.proofs.Bytes.{two-of, length-numbers}
 use Rattle.report.proofs.Fault.{stands-in}
-use Rattle.report_read.proofs.Right.{Begins, ask-right, apart-right, reason-right, follows-right, intact-right, broken-right, breach-right, totals-right}
+use Rattle.report_read.proofs.Right.{Begins, ask-right, apart-right, reason-right, follows-right, intact-right, broken-right, breach-right, parted-right, joined-right, totals-right}
 
 -- Whether the bytes begin with given ones.
 begins-decided : (f bs : List ℕ) → Dec (Begins bs f)
@@ -148,10 +150,23 @@ module _ (M : Matter) where
       go (inr u) (yes z) l = yes (stands-in (field 135 []) (z .0) (intact u) (sym (z .1)))
       go (inr u) (no z) l = no (λ s. z (intact-right u s))
 
+  why-decided : (b : Moment) (s t : ℕ) (bs : List ℕ) → Dec (Stands (Answers M b (why s t)) bs)
+  why-decided b s t bs = go (decUpTo rs (b .records) s t) (led-there N (M .head .units) rs (b .records)) (begins-decided (field 137 []) bs)
+    where
+      of : {L : List ℕ} → (Follows (UpTo rs (b .records)) s t → ⊥) → Led N (M .head .units) (UpTo rs (b .records)) L → Dec (Begins bs (field 136 (numbers L))) → Dec (Stands (Answers M b (why s t)) bs)
+      of {L} n d (yes z) = yes (stands-in (field 136 (numbers L)) (z .0) (parted n d) (sym (z .1)))
+      of n d (no z) = no (λ s. z (parted-right n d s))
+
+      go : Dec (Follows (UpTo rs (b .records)) s t) → (L : List ℕ) × Led N (M .head .units) (UpTo rs (b .records)) L → Dec (Begins bs (field 137 [])) → Dec (Stands (Answers M b (why s t)) bs)
+      go (yes f) d (yes z) = yes (stands-in (field 137 []) (z .0) (joined f) (sym (z .1)))
+      go (yes f) d (no z) = no (λ s. z (joined-right f s))
+      go (no n) d z = of n (d .1) (begins-decided (field 136 (numbers (d .0))) bs)
+
   question-decided : (b : Moment) (q : Question) (bs : List ℕ) → Dec (Stands (Answers M b q) bs)
   question-decided b (ask s t) bs = ask-decided b s t bs
   question-decided b (explain s t) bs = explain-decided b s t bs
   question-decided b broken bs = broken-decided b bs
+  question-decided b (why s t) bs = why-decided b s t bs
 
   totals-decided : (bs : List ℕ) → Dec (Stands (Totalled M) bs)
   totals-decided bs = go (countIt (λ x. Least (UpTo rs (length rs)) x x) (λ x. decLeast rs (λ n. leb n (length rs)) (λ n. n ≤ length rs) (upTo-test (length rs)) x x) N) (countIt (Idle rs) (decIdle rs) (length rs))

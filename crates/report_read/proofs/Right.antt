@@ -8,12 +8,14 @@ use mathlib.Core.List.{List, [], _∷_, _++_, append-nil}
 use lib.ListN.{length, drop, getD, drop-of-length-le}
 use lib.Seq.{drop-cons}
 use Rattle.meaning.specs.Following.{Follows, UpTo, Leader}
+use Rattle.meaning.specs.Looks.{Led}
 use Rattle.meaning.specs.Reasons.{Reason}
 use Rattle.meaning.specs.Totals.{Classes, Idles}
 use Rattle.meaning.proofs.Laws.{classes-one, idles-one, reason-follows}
+use Rattle.meaning.proofs.Looks.{led-one}
 use Rattle.meaning.proofs.Units.{leader-one}
-use Rattle.job_field.specs.Items.{Matter, Moment, after, Question, ask, explain, broken, Item, posed}
-use Rattle.report.specs.Report.{numbers, field, Answers, led, because, apart, breached, intact, Totalled, total, Sound, totals, answered}
+use Rattle.job_field.specs.Items.{Matter, Moment, after, Question, ask, explain, broken, why, Item, posed}
+use Rattle.report.specs.Report.{numbers, field, Answers, led, because, apart, breached, intact, parted, joined, Totalled, total, Sound, totals, answered}
 use Rattle.report.specs.Broken.{Earliest, Unbroken, PairReason}
 use Rattle.report.specs.Fault.{Stands, stands, FaultAt, behind, spare}
 use Rattle.report_read.specs.Read.{Holds, FrontAt, whole, none}
@@ -51,6 +53,15 @@ module _ {M : Matter} {b : Moment} {s t : ℕ} where
   pub follows-right : {bs : List ℕ} → Follows (UpTo (M .records) (b .records)) s t → Stands (Answers M b (explain s t)) bs → (L : List ℕ) × Reason (M .head .size) (M .records) (b .records) s t L × Begins bs (field 132 (numbers L))
   follows-right f (stands (because {L = L} r) rest) = (L, r, (rest, refl))
   follows-right f (stands (apart h) rest) = absurd (h f)
+
+  -- A why has one right field: the leaders are one, and following decides between the two kinds.
+  pub parted-right : {bs L : List ℕ} → (Follows (UpTo (M .records) (b .records)) s t → ⊥) → Led (M .head .size) (M .head .units) (UpTo (M .records) (b .records)) L → Stands (Answers M b (why s t)) bs → Begins bs (field 136 (numbers L))
+  parted-right n d (stands (parted h d′) rest) = (rest, rw (led-one d′ d))
+  parted-right n d (stands (joined h) rest) = absurd (n h)
+
+  pub joined-right : {bs : List ℕ} → Follows (UpTo (M .records) (b .records)) s t → Stands (Answers M b (why s t)) bs → Begins bs (field 137 [])
+  joined-right f (stands (parted h d) rest) = absurd (h f)
+  joined-right f (stands (joined h) rest) = (rest, refl)
 
 -- A 06: where no pair is broken one field is right, and where one is, a list that begins with its number.
 module _ {M : Matter} {b : Moment} where

@@ -70,6 +70,14 @@ fn is_pair(report: &[u8], at: usize, kind: u8, a: u16, b: u16) -> bool
     number_in(report, at + 5) == b
 }
 
+// Whether the number of a tag stands at a place.
+pub fn is_tag(report: &[u8], at: usize, l: Tag) -> bool
+    requires { ⌜ at + 2 ≤ length (now report) ⌝ }
+    ensures { λ r. ⌜ (r ≡ true) ↔ Holds (now (report .entry)) at (two (l .0)) ⌝ }
+{
+    number_in(report, at) == l.number()
+}
+
 // Whether the answer to an ask stands at a place: these two leaders.
 pub fn is_led(report: &[u8], at: usize, l: Tag, m: Tag) -> bool
     requires { ⌜ at ≤ length (now report) ⌝ }

@@ -1,5 +1,5 @@
 // The report's fields, written here and nowhere else: on this side it is the writer that unwraps Tag. The numbers of a reason are
-// reason_field's. Document 01, "The job and the report". Rests on meaning and report.
+// report_numbers'. Document 01, "The job and the report". Rests on meaning and report.
 ghost use mathlib.Core.Path.{_≡_};
 ghost use mathlib.Core.List.{[], _∷_};
 ghost use Prim.Native.Nat.{ℕ, _+_, _*_, _≤_, _<_};
@@ -36,6 +36,14 @@ fn put_pair(room: &mut [u8], at: usize, kind: u8, a: u16, b: u16)
     put_front(room, at, kind, 4);
     put_number(room, at + 3, a);
     put_number(room, at + 5, b);
+}
+
+// A tag, as its number.
+pub fn put_tag(room: &mut [u8], at: usize, l: Tag)
+    requires { ⌜ at + 2 ≤ length (now room) ⌝ }
+    ensures { λ _. ⌜ now (room .exit) ≡ laid at (two (l .0)) (now (room .entry)) ⌝ }
+{
+    put_number(room, at, l.number());
 }
 
 // The answer to an ask: the two leaders.

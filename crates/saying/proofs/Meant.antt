@@ -11,14 +11,15 @@ use lib.Dec.{T, eqb, eqb→eq, eqb-refl}
 use lib.ListN.{length, take, drop}
 use lib.Seq.{take-at, drop-at}
 use Rattle.meaning.specs.Following.{Follows, UpTo, Leader}
+use Rattle.meaning.specs.Looks.{Led}
 use Rattle.meaning.specs.Reasons.{Reason}
-use Rattle.job_field.specs.Items.{Matter, Note, Moment, after, ask, explain, broken, Item, noted, posed}
+use Rattle.job_field.specs.Items.{Matter, Note, Moment, after, ask, explain, broken, why, Item, noted, posed}
 use Rattle.job_field.specs.Reading.{byteAt, numberAt}
-use Rattle.report.specs.Report.{two, numbers, front, field, Answers, led, because, apart, breached, intact, Totalled, total, Sound, totals, passed, answered}
+use Rattle.report.specs.Report.{two, numbers, front, field, Answers, led, because, apart, breached, intact, parted, joined, Totalled, total, Sound, totals, passed, answered}
 use Rattle.report.specs.Broken.{Earliest, Unbroken, PairReason}
 use Rattle.report.proofs.Bytes.{length-field}
 use Rattle.text_line.specs.Line.{line, askLine}
-use Rattle.text_field.specs.Fields.{numbersIn, partOf, bodyOf, explainLine, brokenLine, totalsLine}
+use Rattle.text_field.specs.Fields.{numbersIn, partOf, bodyOf, explainLine, brokenLine, whyLine, totalsLine}
 use Rattle.text.specs.Lines.{linesOf}
 use Rattle.saying.specs.Meant.{Meant}
 use Rattle.saying.specs.Meant as means
@@ -95,6 +96,11 @@ intact-lines is x =
     let f : List ℕ = field 135 [] ++ x in
     ap₂ (λ (p q : List ℕ). p ++ q) (ap (λ (n : ℕ). brokenLine n (numberAt f 3) (numbersIn (partOf 5 f))) (kind-at 135 [] x)) (ap (linesOf is) (rest-back 135 [] x))
 
+why-lines : (s t k : ℕ) (b : List ℕ) (is : List Item) (x : List ℕ) → linesOf (posed (why s t) ∷ is) (field k b ++ x) ≡ whyLine s t k (numbersIn b) ++ linesOf is x
+unfolding linesOf
+why-lines s t k b is x =
+    ap₂ (λ (p q : List ℕ). p ++ q) (ap₂ (whyLine s t) (kind-at k b x) (ap numbersIn (body-back k b x))) (ap (linesOf is) (rest-back k b x))
+
 first-end : (u v : ℕ) → numberAt (field 143 (numbers (u ∷ v ∷ []))) 3 ≡ u
 unfolding field front two numbers
 first-end u v = omega arith
@@ -163,6 +169,26 @@ module _ {M : Matter} where
       → Meant M b (posed broken ∷ is) (linesOf (posed broken ∷ is) (field 135 [] ++ bs))
   intact-meant {is = is} bs u h = meant-as (intact-lines is bs) (intact-line _ _ u h)
 
+  leaders-line : {b : Moment} {s t : ℕ} {L : List ℕ} {is : List Item} {x : List ℕ} → (Follows (UpTo (M .records) (b .records)) s t → ⊥) → Led (M .head .size) (M .head .units) (UpTo (M .records) (b .records)) L
+      → Meant M (after (posed (why s t)) b) is x → Meant M b (posed (why s t) ∷ is) (whyLine s t 136 L ++ x)
+  unfolding whyLine
+  leaders-line n d h = means.parted n d h
+
+  follows-line : {b : Moment} {s t : ℕ} {is : List Item} {x : List ℕ} (ns : List ℕ) → Follows (UpTo (M .records) (b .records)) s t → Meant M (after (posed (why s t)) b) is x
+      → Meant M b (posed (why s t) ∷ is) (whyLine s t 137 ns ++ x)
+  unfolding whyLine
+  follows-line ns f h = means.joined f h
+
+  parted-meant : {b : Moment} {s t : ℕ} {L : List ℕ} {is : List Item} (bs : List ℕ) → (Follows (UpTo (M .records) (b .records)) s t → ⊥) → Led (M .head .size) (M .head .units) (UpTo (M .records) (b .records)) L
+      → Meant M (after (posed (why s t)) b) is (linesOf is bs) → Meant M b (posed (why s t) ∷ is) (linesOf (posed (why s t) ∷ is) (field 136 (numbers L) ++ bs))
+  parted-meant {s = s} {t = t} {L = L} {is = is} bs n d h =
+      meant-as (why-lines s t 136 (numbers L) is bs ∙ ap (λ (ns : List ℕ). whyLine s t 136 ns ++ linesOf is bs) (numbers-back L)) (leaders-line n d h)
+
+  joined-meant : {b : Moment} {s t : ℕ} {is : List Item} (bs : List ℕ) → Follows (UpTo (M .records) (b .records)) s t → Meant M (after (posed (why s t)) b) is (linesOf is bs)
+      → Meant M b (posed (why s t) ∷ is) (linesOf (posed (why s t) ∷ is) (field 137 [] ++ bs))
+  unfolding numbersIn
+  joined-meant {s = s} {t = t} {is = is} bs f h = meant-as (why-lines s t 137 [] is bs) (follows-line [] f h)
+
   -- The lines of a sound report mean what document 01 says.
   pub sound-meant : {b : Moment} {is : List Item} {bs : List ℕ} → Sound M b is bs → Meant M b is (linesOf is bs)
   sound-meant (totals t) = totals-meant t
@@ -172,3 +198,5 @@ module _ {M : Matter} where
   sound-meant (answered (apart n) s) = apart-meant _ n (sound-meant s)
   sound-meant (answered (breached e r) s) = breach-meant _ e r (sound-meant s)
   sound-meant (answered (intact u) s) = intact-meant _ u (sound-meant s)
+  sound-meant (answered (parted n d) s) = parted-meant _ n d (sound-meant s)
+  sound-meant (answered (joined f) s) = joined-meant _ f (sound-meant s)

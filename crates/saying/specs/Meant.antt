@@ -1,13 +1,14 @@
--- Document 01, "The program": what the lines that tagcheck writes for an accepted job mean, one case for each letter. Document 02, No. 1: `C` and `K`.
+-- Document 01, "The program": what the lines that tagcheck writes for an accepted job mean, one case for each letter. Document 02, No. 1: `C` and `K`; No. 7: `W` and `Y`.
 -- Assumes nothing.
 use Prim.Native.Nat.{ℕ}
 use mathlib.Core.Logic.{_≢_}
 use mathlib.Core.List.{List, [], _∷_, _++_}
 use lib.ListN.{length}
 use Rattle.meaning.specs.Following.{Follows, UpTo, Leader}
+use Rattle.meaning.specs.Looks.{Led}
 use Rattle.meaning.specs.Reasons.{Reason}
 use Rattle.meaning.specs.Totals.{Classes, Idles}
-use Rattle.job_field.specs.Items.{Matter, Note, Moment, after, ask, explain, broken, Item, noted, posed}
+use Rattle.job_field.specs.Items.{Matter, Note, Moment, after, ask, explain, broken, why, Item, noted, posed}
 use Rattle.report.specs.Broken.{Earliest, Unbroken, PairReason}
 use Rattle.text_line.specs.Line.{line}
 
@@ -33,5 +34,11 @@ pub data Meant (M : Matter) : Moment → List Item → List ℕ → Type 0 where
   -- `K`: no pair is broken
   intact : {b : Moment} {is : List Item} {x : List ℕ} → Unbroken (M .records) (b .records) (M .pairs) (b .differs)
       → Meant M (after (posed broken) b) is x → Meant M b (posed broken ∷ is) (line 75 [] ++ x)
+  -- `W s t` and the leader of every tag in order: why, does not follow
+  parted : {b : Moment} {s t : ℕ} {L : List ℕ} {is : List Item} {x : List ℕ} → (Follows (UpTo (M .records) (b .records)) s t → ⊥) → Led (M .head .size) (M .head .units) (UpTo (M .records) (b .records)) L
+      → Meant M (after (posed (why s t)) b) is x → Meant M b (posed (why s t) ∷ is) (line 87 (s ∷ t ∷ L) ++ x)
+  -- `Y s t`: why, follows
+  joined : {b : Moment} {s t : ℕ} {is : List Item} {x : List ℕ} → Follows (UpTo (M .records) (b .records)) s t
+      → Meant M (after (posed (why s t)) b) is x → Meant M b (posed (why s t) ∷ is) (line 89 (s ∷ t ∷ []) ++ x)
   -- `T classes idle`: at the end of the job
   totals : {b : Moment} {c i : ℕ} → Classes (M .head .size) (UpTo (M .records) (length (M .records))) c → Idles (M .records) i → Meant M b [] (line 84 (c ∷ i ∷ []))

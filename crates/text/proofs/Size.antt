@@ -11,13 +11,13 @@ use lib.Dec.{eqb}
 use lib.ListN.{length, getD, take, drop, length-append, length-take, length-drop, List·getD-eq-default}
 use lib.Seq.{getD-drop, getD-take}
 use Rattle.meaning.specs.Limits.{mostTags}
-use Rattle.job_field.specs.Items.{Head, Question, ask, explain, broken, tagsOfQuestion, Item, noted, posed, accepted, questionsOf}
+use Rattle.job_field.specs.Items.{Head, Question, ask, explain, broken, why, tagsOfQuestion, Item, noted, posed, accepted, questionsOf}
 use Rattle.job_field.specs.Reading.{byteAt, numberAt, behindAt, reading}
 use Rattle.job_field.specs.Standing.{Below, Stands, ends, next}
 use Rattle.job_field.proofs.Standing.{accepted-stands}
 use Rattle.text_line.specs.Digits.{digits}
 use Rattle.text_line.specs.Line.{parted, line, askLine}
-use Rattle.text_field.specs.Fields.{numbersIn, partOf, bodyOf, explainLine, brokenLine, questionLine, totalsLine}
+use Rattle.text_field.specs.Fields.{numbersIn, partOf, bodyOf, explainLine, brokenLine, whyLine, questionLine, totalsLine}
 use Rattle.text.specs.Lines.{linesOf, refusalLine}
 use Rattle.text_line.proofs.Digits.{digits-one, digits-more}
 use Rattle.text_field.proofs.Parts.{length-numbers}
@@ -125,11 +125,22 @@ module _ (report : List ℕ) (b : Bytes report) where
           omega (arith, line-size 67 (k ∷ length ns ∷ ns), parted-more k (length ns ∷ ns), parted-more (length ns) ns, digits-five k (number-small 3), digits-five (length ns) many, numbers-size (partOf 5 report) (part-bytes 5), length-part 3, length-part 5)
       go false = omega (arith, line-size 75 [], parted-none)
 
+  why-size : (s t kind : ℕ) → s < 65536 → t < 65536 → length (whyLine s t kind (numbersIn (bodyOf report))) ≤ 20 + 3 * length (bodyOf report)
+  unfolding whyLine
+  why-size s t kind h k = go (eqb kind 136)
+    where
+      go : (differs : Bool) → length (cond differs (line 87 (s ∷ t ∷ numbersIn (bodyOf report))) (line 89 (s ∷ t ∷ []))) ≤ 20 + 3 * length (bodyOf report)
+      go true =
+          let ns : List ℕ = numbersIn (bodyOf report) in
+          omega (arith, line-size 87 (s ∷ t ∷ ns), parted-more s (t ∷ ns), parted-more t ns, digits-five s h, digits-five t k, numbers-size (bodyOf report) (part-bytes 3))
+      go false = omega (arith, pair-size 89 s t h k)
+
 -- The line of a question: three bytes for each byte of its answer's body, and 26 more.
 question-size : (report : List ℕ) → Bytes report → (N : ℕ) (q : Question) → N ≤ mostTags → Below N (tagsOfQuestion q) → length (questionLine q report) ≤ 26 + 3 * length (bodyOf report)
 question-size report b N (ask x y) small t = omega (arith, ask-size x y (numberAt report 3) (numberAt report 5) (omega (arith, t .0)) (omega (arith, t .1 .0)) (number-small report b 3) (number-small report b 5))
 question-size report b N (explain x y) small t = omega (arith, explain-size report b x y (byteAt report 0) (omega (arith, t .0)) (omega (arith, t .1 .0)))
 question-size report b N broken small t = omega (arith, broken-size report b (byteAt report 0))
+question-size report b N (why x y) small t = omega (arith, why-size report b x y (byteAt report 0) (omega (arith, t .0)) (omega (arith, t .1 .0)))
 
 -- The lines of the items that stand in a job: three bytes for each byte of the report, and 26 for each question.
 lines-size : (job : List ℕ) (N at : ℕ) (items : List Item) → N ≤ mostTags → Stands job N at items → (report : List ℕ) → Bytes report

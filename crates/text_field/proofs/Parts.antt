@@ -11,7 +11,7 @@ use Rattle.job_field.specs.Reading.{numberAt}
 use borrow.Author.Tests.{eq-eqb, ne-eqb}
 use Rattle.text_line.specs.Line.{parted, line, askLine}
 use Rattle.text_line.proofs.Parted.{parted-append}
-use Rattle.text_field.specs.Fields.{numbersIn, partOf, explainLine, brokenLine}
+use Rattle.text_field.specs.Fields.{numbersIn, partOf, explainLine, brokenLine, whyLine}
 
 pub length-numbers : (bytes : List ℕ) → length (numbersIn bytes) ≡ length bytes / 2
 unfolding numbersIn
@@ -75,9 +75,20 @@ pub brokenLine-none : (kind number : ℕ) (ns : List ℕ) → (kind ≡ 134 → 
 unfolding brokenLine
 brokenLine-none kind number ns e = rw (ne-eqb kind 134 e)
 
+pub whyLine-leaders : (s t kind : ℕ) (ns : List ℕ) → kind ≡ 136 → line 87 (s ∷ t ∷ ns) ≡ whyLine s t kind ns
+unfolding whyLine
+whyLine-leaders s t kind ns e = rw (eq-eqb kind 136 e)
+
+pub whyLine-none : (s t kind : ℕ) (ns : List ℕ) → (kind ≡ 136 → ⊥) → line 89 (s ∷ t ∷ []) ≡ whyLine s t kind ns
+unfolding whyLine
+whyLine-none s t kind ns e = rw (ne-eqb kind 136 e)
+
 -- The lines over equal numbers are one: as lemmas, since the search for them among all that is known takes seconds.
 pub ask-as : {s s′ t t′ l l′ m m′ : ℕ} → s ≡ s′ → t ≡ t′ → l ≡ l′ → m ≡ m′ → askLine s t l m ≡ askLine s′ t′ l′ m′
 ask-as p q u v = cc
 
 pub explain-as : {s s′ t t′ : ℕ} (b : ℕ) (ns : List ℕ) → s ≡ s′ → t ≡ t′ → explainLine s t b ns ≡ explainLine s′ t′ b ns
 explain-as b ns p q = cc
+
+pub why-as : {s s′ t t′ : ℕ} (b : ℕ) (ns : List ℕ) → s ≡ s′ → t ≡ t′ → whyLine s t b ns ≡ whyLine s′ t′ b ns
+why-as b ns p q = cc

@@ -6,7 +6,7 @@ use mathlib.Core.Bool.{cond}
 use mathlib.Core.List.{List, [], _∷_}
 use lib.Dec.{eqb}
 use lib.ListN.{length, take, drop}
-use Rattle.job_field.specs.Items.{Question, ask, explain, broken, Item, noted, posed}
+use Rattle.job_field.specs.Items.{Question, ask, explain, broken, why, Item, noted, posed}
 use Rattle.job_field.specs.Reading.{Field, bad, header, item, end, byteAt, numberAt}
 use Rattle.text_line.specs.Line.{line, askLine}
 
@@ -32,11 +32,16 @@ explainLine s t kind ns = cond (eqb kind 132) (line 69 (s ∷ t ∷ length ns �
 unfoldable pub brokenLine : ℕ → ℕ → List ℕ → List ℕ
 brokenLine kind number ns = cond (eqb kind 134) (line 67 (number ∷ length ns ∷ ns)) (line 75 [])
 
+-- Document 02, No. 7: `W s t` and the N leaders, for a field of kind 88 hex (136); `Y s t` (the equality follows).
+unfoldable pub whyLine : ℕ → ℕ → ℕ → List ℕ → List ℕ
+whyLine s t kind ns = cond (eqb kind 136) (line 87 (s ∷ t ∷ ns)) (line 89 (s ∷ t ∷ []))
+
 -- The line of a question, with the report from its field on. A body's first two numbers stand at 3 and 5.
 abbrev pub questionLine : Question → List ℕ → List ℕ
 questionLine (ask s t) report = askLine s t (numberAt report 3) (numberAt report 5)
 questionLine (explain s t) report = explainLine s t (byteAt report 0) (numbersIn (bodyOf report))
 questionLine broken report = brokenLine (byteAt report 0) (numberAt report 3) (numbersIn (partOf 5 report))
+questionLine (why s t) report = whyLine s t (byteAt report 0) (numbersIn (bodyOf report))
 
 -- The line of an item: a note has none.
 abbrev pub lineOf : Item → List ℕ → List ℕ

@@ -9,7 +9,7 @@ ghost use Rattle.job_field.specs.Reading.{byteAt, numberAt};
 ghost use Rattle.job_field.specs.Answer.{questionSaid, said};
 ghost use Rattle.text_line.specs.Line.{parted, line};
 ghost use Rattle.text_line.specs.Put.{Put};
-ghost use Rattle.text_field.specs.Fields.{numbersIn, partOf, bodyOf, explainLine, brokenLine, questionLine, totalsLine, textAt, widthAt};
+ghost use Rattle.text_field.specs.Fields.{numbersIn, partOf, bodyOf, explainLine, brokenLine, whyLine, questionLine, totalsLine, textAt, widthAt};
 use job_field::Field;
 use job_field::Query;
 use meaning::Tag;
@@ -139,6 +139,32 @@ fn put_broken(report: &[u8], out: &mut [u8], at: usize) -> usize
     }
 }
 
+// The line of the leaders: the numbers of the body of the report's first field, as far as they are there.
+fn put_leaders(report: &[u8], s: usize, t: usize, out: &mut [u8], at: usize) -> usize
+    ensures { λ r. do
+      let ns = numbersIn (bodyOf (now (report .entry)))
+      ⌜ Put (line 87 (s ∷ t ∷ ns)) (now (out .entry)) at (now (out .exit)) r ⌝ }
+{
+    let stop = width(report);
+    let from = part_start(3, stop);
+    let next = open_line(out, at, b'W', s, t);
+    let last = put_numbers(report, from, stop, out, next);
+    put(out, last, b'\n')
+}
+
+// The line of a why: the leaders where the report's first field is of kind 88 hex.
+fn put_why(report: &[u8], s: usize, t: usize, out: &mut [u8], at: usize) -> usize
+    ensures { λ r. do
+      let ns = numbersIn (bodyOf (now (report .entry)))
+      ⌜ Put (whyLine s t (byteAt (now (report .entry)) 0) ns) (now (out .entry)) at (now (out .exit)) r ⌝ }
+{
+    if byte(report, 0) == 0x88 {
+        put_leaders(report, s, t, out, at)
+    } else {
+        put_pair(out, at, b'Y', s, t)
+    }
+}
+
 // The line of the totals.
 fn put_totals(report: &[u8], out: &mut [u8], at: usize) -> usize
     ensures { λ r. ⌜ Put (totalsLine (now (report .entry))) (now (out .entry)) at (now (out .exit)) r ⌝ }
@@ -175,6 +201,7 @@ fn put_question(q: Query, report: &[u8], out: &mut [u8], at: usize) -> usize
         ),
         Query::Explain(s, t) => put_explain(report, shown(s), shown(t), out, at),
         Query::Broken => put_broken(report, out, at),
+        Query::Why(s, t) => put_why(report, shown(s), shown(t), out, at),
     }
 }
 

@@ -25,6 +25,12 @@ enum-told c = search needs
 answer-broken-requires : tie.Need-answer-broken-requires
 answer-broken-requires c κs = let p = rw (ap questionSaid (c .before .before .enum-told .given .1)) at (c .before .before .before .before .before .before .before .pre) in (p .breaking, p .facing .fits)
 
+enum-known-q-3 : tie.Need-enum-known-q-3
+enum-known-q-3 c = search needs
+
+answer-why-requires : tie.Need-answer-why-requires
+answer-why-requires c κs = (rw (ap questionSaid (c .before .before .before .q3 .given .1)) at (c .before .before .before .before .before .before .before .before .pre)) .facing
+
 same-length : tie.Need-same-length
 same-length c = search needs
 
@@ -52,6 +58,15 @@ same-length-6 c = search needs
 returns-3 : tie.Need-returns-3
 returns-3 c = rw (ap questionSaid (c .before .before .before .before .before .before .before .enum-told .given .1)) (c .before .before .before .before .answer-broken .ensures)
 
+same-length-7 : tie.Need-same-length-7
+same-length-7 c = search needs
+
+same-length-8 : tie.Need-same-length-8
+same-length-8 c = search needs
+
+returns-4 : tie.Need-returns-4
+returns-4 c = rw (ap questionSaid (c .before .before .before .before .before .before .before .before .q3 .given .1)) (answered-replied (c .before .before .before .before .before .before .before .before .before .before .before .before .before .pre .breaking) (c .before .before .before .before .answer-why .ensures))
+
 pub answer-question-spec : {M : Type 1} → statement M
 answer-question-spec =
     tie.close
@@ -62,6 +77,8 @@ answer-question-spec =
     answer-explain-requires
     enum-told
     answer-broken-requires
+    enum-known-q-3
+    answer-why-requires
     same-length
     same-length-2
     returns
@@ -70,4 +87,7 @@ answer-question-spec =
     returns-2
     same-length-5
     same-length-6
-    returns-3)
+    returns-3
+    same-length-7
+    same-length-8
+    returns-4)

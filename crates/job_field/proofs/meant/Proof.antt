@@ -43,6 +43,9 @@ enum-told-9 c = search needs
 enum-told-10 : tie.Need-enum-told-10
 enum-told-10 c = search needs
 
+enum-told-11 : tie.Need-enum-told-11
+enum-told-11 c = search needs
+
 returns : tie.Need-returns
 returns c = rw (c .enum-told .given .1)
 
@@ -68,10 +71,13 @@ returns-8 : tie.Need-returns-8
 returns-8 c = rw (c .enum-told8 .given .1)
 
 returns-9 : tie.Need-returns-9
-returns-9 c = rw (c .enum-told9 .given .1)
+returns-9 c = rw (c .enum-told9 .given .1, c .before .before .before .before .of .ensures, c .before .before .before .of2 .ensures)
 
 returns-10 : tie.Need-returns-10
 returns-10 c = rw (c .enum-told10 .given .1)
+
+returns-11 : tie.Need-returns-11
+returns-11 c = rw (c .enum-told11 .given .1)
 
 pub meant-spec : {M : Type 1} → statement M
 meant-spec =
@@ -90,6 +96,7 @@ meant-spec =
     enum-told-8
     enum-told-9
     enum-told-10
+    enum-told-11
     returns
     returns-2
     returns-3
@@ -99,4 +106,5 @@ meant-spec =
     returns-7
     returns-8
     returns-9
-    returns-10)
+    returns-10
+    returns-11)

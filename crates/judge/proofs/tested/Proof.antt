@@ -4,7 +4,7 @@ use mathlib.Core.Path.{sym, ap}
 use Rattle.job_field.specs.Answer.{questionSaid}
 use Rattle.job_field.specs.Reading.{matterIn}
 use Rattle.report.specs.Report.{Known}
-use Rattle.report.proofs.Known.{ask-known, ask-tabled, explain-known, explain-tabled}
+use Rattle.report.proofs.Known.{ask-known, ask-tabled, explain-known, explain-tabled, why-known, why-tabled}
 use Rattle.answer_ask.proofs.Right.{right-same}
 use Rattle.judge.proofs.Going.{known-here}
 use borrow.Author.Needs.{needs}
@@ -38,6 +38,15 @@ left-requires c κs = search needs
 checked-requires : tie.Need-checked-requires
 checked-requires c κs = (rw (c .left .ensures) (c .before .before .before .before .before .before .before .pre .breaking), c .before .before .before .before .before .before .before .pre .within)
 
+enum-known-q-3 : tie.Need-enum-known-q-3
+enum-known-q-3 c = search needs
+
+posed-requires-3 : tie.Need-posed-requires-3
+posed-requires-3 c κs = search needs
+
+doubted-requires : tie.Need-doubted-requires
+doubted-requires c κs = let t = rw (ap questionSaid (c .before .before .before .q3 .given .1)) at (c .before .before .before .before .before .before .before .before .pre) in (rw (c .posed3 .ensures) (record { past = t .breaking .past; units = rw (t .breaking .head) at (t .breaking .stands .units); early = t .breaking .passed; from = t .tags .0; to = t .tags .1 .0 }), t .within)
+
 same-length : tie.Need-same-length
 same-length c = search needs
 
@@ -60,6 +69,14 @@ same-length-3 c = search needs
 returns-3 : tie.Need-returns-3
 returns-3 c = rw (ap questionSaid (c .before .before .before .before .before .enum-told .given .1)) (record { kept = c .before .before .checked .ensures .kept; right = c .before .before .checked .ensures .right })
 
+same-length-4 : tie.Need-same-length-4
+same-length-4 c = search needs
+
+returns-4 : tie.Need-returns-4
+returns-4 c =
+    rw (ap questionSaid (c .before .before .before .before .before .before .q3 .given .1))
+    (record { kept = c .before .before .doubted .ensures .kept; right = λ b e d. let K = known-here (c .before .before .before .before .before .before .before .before .before .before .before .pre .breaking) b e in right-same (why-known K) (why-tabled K) (rw (c .before .before .before .posed3 .ensures) at (c .before .before .doubted .ensures .right)) })
+
 pub tested-spec : {M : Type 1} → statement M
 tested-spec =
     tie.close
@@ -73,9 +90,14 @@ tested-spec =
     enum-told
     left-requires
     checked-requires
+    enum-known-q-3
+    posed-requires-3
+    doubted-requires
     same-length
     returns
     same-length-2
     returns-2
     same-length-3
-    returns-3)
+    returns-3
+    same-length-4
+    returns-4)

@@ -7,7 +7,7 @@ use native.Mathlib.Omega.{arith}
 use Prim.Native.Nat.{ℕ, _-_, _≤_}
 use mathlib.Core.Path.{_≡_, refl, subst}
 use denote.Ref.{now}
-use Rattle.table.specs.Map.{listIn}
+use Rattle.table.specs.Map.{listOf, listIn}
 use Rattle.report.specs.Report.{numbers}
 use Rattle.report_read.specs.Read.{Holds}
 use Rattle.meaning.proofs.Tests.{is-not, true-or-false}
@@ -20,7 +20,7 @@ abbrev μ-loop : tie.MeasureT-loop
 μ-loop report at work count i₀ i = count - i
 
 loop-holds : tie.Need-loop-holds Inv-loop μ-loop
-loop-holds c = let a = c .before .before .args in (omega arith, list-held-none (now (a .report)) (a .at) (now (a .work)))
+loop-holds c = let a = c .before .before .args in (omega arith, list-held-none (now (a .report)) (a .at) (listOf (now (a .work))))
 
 is-listed-requires : tie.Need-is-listed-requires Inv-loop μ-loop
 is-listed-requires c κs = search needs
@@ -35,13 +35,13 @@ loop-again : tie.Need-loop-again Inv-loop μ-loop
 loop-again c =
     let a = c .before .before .before .before .before .before .args in
     let l = c .before .before .before .loop in
-    (search needs, list-held-more (now (a .report)) (a .at) (now (a .work)) (l .i) (l .inv .1) (c .before .is-listed .ensures .0 (c .if1 .taken)))
+    (search needs, list-held-more (now (a .report)) (a .at) (listOf (now (a .work))) (l .i) (l .inv .1) (c .before .is-listed .ensures .0 (c .if1 .taken)))
 
 returns : tie.Need-returns Inv-loop μ-loop
 returns c =
     let a = c .before .before .before .before .before .before .args in
     let l = c .before .before .before .loop in
-    is-not (λ h. true-or-false (c .before .is-listed .ensures .1 (list-held-at (now (a .report)) (a .at) (now (a .work)) (a .count) (l .i) (c .before .before .loop-test .taken) h)) (c .if1 .left))
+    is-not (λ h. true-or-false (c .before .is-listed .ensures .1 (list-held-at (now (a .report)) (a .at) (listOf (now (a .work))) (a .count) (l .i) (c .before .before .loop-test .taken) h)) (c .if1 .left))
 
 returns-2 : tie.Need-returns-2 Inv-loop μ-loop
 returns-2 c =

@@ -8,7 +8,7 @@ use Prim.Native.Nat.{ℕ, _+_, _-_, _≤_}
 use mathlib.Core.Path.{_≡_, refl, sym, ap, _∙_}
 use lib.ListN.{length}
 use denote.Ref.{now}
-use Rattle.table.specs.Map.{listIn}
+use Rattle.table.specs.Map.{listOf, listIn}
 use Rattle.report.specs.Report.{numbers, laid}
 use Rattle.report.proofs.Laid.{laid-none}
 use Rattle.report_numbers.proofs.Written.{list-laid}
@@ -35,7 +35,7 @@ loop-less c = search needs
 loop-again : tie.Need-loop-again Inv-loop μ-loop
 loop-again c =
     let l = c .before .before .before .before .before .loop in
-    (omega (arith, l .inv .0), c .before .before .put-listed .kept .0 ∙ l .inv .1, list-laid (c .before .before .before .before .before .before .before .before .args .at) (l .i) (now (c .before .before .before .before .before .before .before .before .args .work)) (now (c .before .before .before .before .before .before .before .before .args .room)) (l .room) (c .before .before .put-listed .last .0) (omega (arith, c .before .before .before .before .before .before .before .before .pre)) (l .inv .2) (c .before .before .put-listed .ensures))
+    (omega (arith, l .inv .0), c .before .before .put-listed .kept .0 ∙ l .inv .1, list-laid (listOf (now (c .before .before .before .before .before .before .before .before .args .work))) (c .before .before .before .before .before .before .before .before .args .at) (l .i) (now (c .before .before .before .before .before .before .before .before .args .room)) (l .room) (c .before .before .put-listed .last .0) (omega (arith, c .before .before .before .before .before .before .before .before .pre)) (l .inv .2) (c .before .before .put-listed .ensures))
 
 same-length : tie.Need-same-length Inv-loop μ-loop
 same-length c = c .before .loop .inv .1

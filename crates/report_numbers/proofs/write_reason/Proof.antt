@@ -2,7 +2,8 @@
 -- Assumes nothing.
 use native.Mathlib.Omega.{arith}
 use denote.Ref.{now}
-use Rattle.report_numbers.proofs.Written.{reason-laid}
+use Rattle.table.specs.Map.{listOf}
+use Rattle.report_numbers.proofs.Written.{field-laid}
 use borrow.Author.Needs.{needs}
 use Rattle.report_numbers.proofs.write_reason.Statement.{statement}
 use Rattle.report_numbers.proofs.write_reason.Tie as tie
@@ -10,29 +11,23 @@ use Rattle.report_numbers.proofs.write_reason.Tie as tie
 mul-put-front : tie.Need-mul-put-front
 mul-put-front c = search needs
 
--- src/lib.rt:46:34
 cast-put-front : tie.Need-cast-put-front
 cast-put-front c = search needs
 
--- src/lib.rt:46:5
 put-front-requires : tie.Need-put-front-requires
 put-front-requires c κs = search needs
 
--- src/lib.rt:47:22
 add-write-list : tie.Need-add-write-list
 add-write-list c = search needs
 
--- src/lib.rt:47:5
 write-list-requires : tie.Need-write-list-requires
 write-list-requires c κs = search needs
 
--- src/lib.rt:42:1
 same-length : tie.Need-same-length
 same-length c = search needs
 
--- src/lib.rt:42:1
 returns : tie.Need-returns
-returns c = reason-laid (c .before .before .before .before .before .before .before .before .before .before .args .at) (c .before .before .before .before .before .before .before .before .before .before .args .count) (now (c .before .before .before .before .before .before .before .before .before .before .args .work)) (now (c .before .before .before .before .before .before .before .before .before .before .args .room)) _ _ (omega (arith, c .before .before .before .before .before .before .before .before .before .before .pre)) (c .before .before .before .before .before .before .put-front .ensures) (c .before .before .write-list .ensures)
+returns c = field-laid 132 (listOf (now (c .before .before .before .before .before .before .before .before .before .before .args .work))) (c .before .before .before .before .before .before .before .before .before .before .args .at) (c .before .before .before .before .before .before .before .before .before .before .args .count) (now (c .before .before .before .before .before .before .before .before .before .before .args .room)) _ _ (omega (arith, c .before .before .before .before .before .before .before .before .before .before .pre)) (c .before .before .before .before .before .before .put-front .ensures) (c .before .before .write-list .ensures)
 
 pub write-reason-spec : {M : Type 1} → statement M
 write-reason-spec =

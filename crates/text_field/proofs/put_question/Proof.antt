@@ -1,7 +1,7 @@
 -- `text_field::put_question` meets its contract, question by question.
 -- Assumes nothing.
 use Rattle.text_line.proofs.Puts.{put-as}
-use Rattle.text_field.proofs.Parts.{ask-as, explain-as}
+use Rattle.text_field.proofs.Parts.{ask-as, explain-as, why-as}
 use borrow.Author.Needs.{needs}
 use Rattle.text_field.proofs.put_question.Statement.{statement}
 use Rattle.text_field.proofs.put_question.Tie as tie
@@ -49,6 +49,18 @@ enum-told c = search needs
 put-broken-requires : tie.Need-put-broken-requires
 put-broken-requires c κs = search needs
 
+enum-known-q-3 : tie.Need-enum-known-q-3
+enum-known-q-3 c = search needs
+
+shown-requires-5 : tie.Need-shown-requires-5
+shown-requires-5 c κs = search needs
+
+shown-requires-6 : tie.Need-shown-requires-6
+shown-requires-6 c κs = search needs
+
+put-why-requires : tie.Need-put-why-requires
+put-why-requires c κs = search needs
+
 same-length : tie.Need-same-length
 same-length c = search needs
 
@@ -66,6 +78,12 @@ same-length-3 c = search needs
 
 returns-3 : tie.Need-returns-3
 returns-3 c = rw (c .before .before .before .before .enum-told .given .1) (c .before .before .put-broken .ensures)
+
+same-length-4 : tie.Need-same-length-4
+same-length-4 c = search needs
+
+returns-4 : tie.Need-returns-4
+returns-4 c = rw (c .before .before .before .before .before .before .before .q3 .given .1) (put-as (why-as _ _ (c .before .before .before .before .before .shown5 .ensures) (c .before .before .before .before .shown6 .ensures)) (c .before .before .put-why .ensures))
 
 pub put-question-spec : {M : Type 1} → statement M
 put-question-spec =
@@ -85,9 +103,15 @@ put-question-spec =
     put-explain-requires
     enum-told
     put-broken-requires
+    enum-known-q-3
+    shown-requires-5
+    shown-requires-6
+    put-why-requires
     same-length
     returns
     same-length-2
     returns-2
     same-length-3
-    returns-3)
+    returns-3
+    same-length-4
+    returns-4)
