@@ -12,10 +12,10 @@
 #include <stdint.h>
 #include <string.h>
 
-enum { LEFT = 0, RIGHT = 4001, RESULT = 8002, PARENT = 12003, AGE = 13003, FIRST = 14003, SECOND = 15003, WHEN = 16003, LIST = 17003, MEMBER = 19003, WEIGHT = 20003, LABEL = 21003, TRAIL = 22003,
+enum { LEFT = 0, RIGHT = 4001, RESULT = 8002, PARENT = 12003, AGE = 13003, FIRST = 14003, SECOND = 15003, WHEN = 16003, LIST = 17003, MEMBER = 19003, WEIGHT = 20003, LABEL = 21003, TRAIL = 22003, NEXT = 22003,
        ENDS = 23003, BEFORE = 25003, QUEUE = 29003, MORE = 17003, OTHER = 22003, CHAIN = 26003, BUCKETS = 30003, USES = 30764, SHARES = 31764, NB = 761, EQUATION = 65535, LEADS = 1000, WAITS = 4002 };
-static uint16_t work[32768], marks[1000], noted[4001];
-static int tags, records;
+static uint16_t work[32768], marks[1000], order[1000], noted[4001];
+static int tags, records, taken;
 static struct { long closing, following, trimming; } steps;
 #define W(r, i) work[(r) + (i)]
 
@@ -161,52 +161,99 @@ static int leader(int age, int x)
     return x;
 }
 
-static int met(int x, int y)
+static int lift(int top, int *x, int left)
 {
     int newest = 0;
-    while (x != y) {
-        int a = W(AGE, x), b = W(AGE, y);
+    while (W(AGE, left) < top) {
         steps.following++;
-        if (a >= 1000 && b >= 1000)
-            return 1000;
-        if (a <= b) {
-            newest = a;
-            x = W(PARENT, x);
-        } else {
-            newest = b;
-            y = W(PARENT, y);
-        }
+        left = W(PARENT, left);
+        newest = W(AGE, *x);
+        *x = W(PARENT, *x);
     }
     return newest;
 }
 
-static void take(int b);
-
-static void trace(int s, int t)
+static int met_before(int top, int s, int t)
 {
-    if (s != t) {
-        int b = met(s, t), p = W(FIRST, b), q = W(SECOND, b), near = q ? W(RESULT, p) : W(LEFT, p), far = q ? W(RESULT, q) : W(RIGHT, p);
-        if (leader(b, s) != leader(b, near)) {
-            int k = near;
-            near = far;
-            far = k;
-        }
-        trace(s, near);
-        trace(far, t);
-        take(b);
+    int x = s, y = t, a, b, newest;
+    while (W(AGE, x) < top && W(AGE, y) < top) {
+        steps.following++;
+        x = W(PARENT, x);
+        y = W(PARENT, y);
     }
+    a = lift(top, &s, x);
+    b = lift(top, &t, y);
+    newest = a < b ? b : a;
+    while (s != t) {
+        a = W(AGE, s);
+        b = W(AGE, t);
+        steps.following++;
+        if (a >= top)
+            return top;
+        newest = a < b ? b : a;
+        s = W(PARENT, s);
+        t = W(PARENT, t);
+    }
+    return newest;
 }
+
+static int met(int s, int t) { return met_before(1000, s, t); }
+
+static int first_end(int b) { return W(SECOND, b) ? W(RESULT, W(FIRST, b)) : W(LEFT, W(FIRST, b)); }
+
+static int second_end(int b) { return W(SECOND, b) ? W(RESULT, W(SECOND, b)) : W(RIGHT, W(FIRST, b)); }
+
+static int near_end(int v) { return v < 1000 ? first_end(v) : second_end(v - 1000); }
+
+static int far_end(int v) { return v < 1000 ? second_end(v) : first_end(v - 1000); }
 
 static void take(int b)
 {
-    if (marks[b] != 1) {
-        int p = W(FIRST, b), q = W(SECOND, b);
-        if (q) {
-            trace(W(LEFT, p), W(LEFT, q));
-            trace(W(RIGHT, p), W(RIGHT, q));
+    if (marks[b] == 1)
+        return;
+    order[taken++] = b;
+    marks[b] = 1;
+}
+
+static void note(int x, int y) /* vector code: eight labels a step */
+{
+    int gone = W(LABEL, x), kept = W(LABEL, y);
+    steps.following += 1000 / 8;
+    for (int z = 0; z < 1000; z++)
+        W(LABEL, z) = W(LABEL, z) == gone ? kept : W(LABEL, z);
+}
+
+static void pass(int s, int t, int limit)
+{
+    int at = s, to = t, below = limit, n = 0;
+    while (W(LABEL, at) != W(LABEL, t)) {
+        if (W(LABEL, at) == W(LABEL, to)) {
+            int v = W(NEXT, --n);
+            below = v % 1000;
+            take(below);
+            note(near_end(v), far_end(v));
+            at = far_end(v);
+            to = n ? near_end(W(NEXT, n - 1)) : t;
+        } else {
+            below = met_before(below, at, to);
+            W(NEXT, n) = leader(below, at) == leader(below, first_end(below)) ? below : 1000 + below;
+            to = near_end(W(NEXT, n++));
         }
-        marks[b] = 1;
     }
+}
+
+static void trace(int s, int t, int limit)
+{
+    memset(marks, 0, sizeof marks);
+    taken = 0;
+    for (int x = 0; x < 1000; x++)
+        W(LABEL, x) = x;
+    pass(s, t, limit);
+    for (int b = limit - 1; b >= 0; b--)
+        if (marks[b] == 1 && W(SECOND, b)) {
+            pass(W(LEFT, W(FIRST, b)), W(LEFT, W(SECOND, b)), b);
+            pass(W(RIGHT, W(FIRST, b)), W(RIGHT, W(SECOND, b)), b);
+        }
 }
 
 /* ---- listing ---- */
@@ -219,16 +266,15 @@ static int put(int r, int n)
     return n + 1;
 }
 
-static int list_marked(int limit)
+static int list_marked(void)
 {
     int n = 0;
     memset(noted, 0, sizeof noted);
-    for (int a = 0; a < limit; a++)
-        if (marks[a] == 1) {
-            n = put(W(FIRST, a), n);
-            if (W(SECOND, a))
-                n = put(W(SECOND, a), n);
-        }
+    for (int i = 0; i < taken; i++) {
+        n = put(W(FIRST, order[i]), n);
+        if (W(SECOND, order[i]))
+            n = put(W(SECOND, order[i]), n);
+    }
     return n;
 }
 
@@ -270,11 +316,11 @@ static void unite(int x, int y)
         y = z;
     }
     z = x;
-    do {
+    do { /* the label comes last */
+        z = W(MEMBER, z);
         for (int k = 0; k < 2; k++)
             for (int p = W(ENDS + 1000 * k, z); p; p = W(BEFORE + 2000 * k, p - 1))
                 wake(p - 1);
-        z = W(MEMBER, z);
     } while (z != x);
     name(x, y);
     swap(x, y);
@@ -286,12 +332,12 @@ static int twin(int a, int c)
 {
     int k = W(WEIGHT, a) > W(WEIGHT, c), from = k ? c : a, z = from;
     do {
+        z = W(MEMBER, z);
         for (int p = W(ENDS + 1000 * k, z); p; p = W(BEFORE + 2000 * k, p - 1)) {
             steps.trimming++;
             if (W(QUEUE, p - 1) == 1 && W(LABEL, W(LEFT, W(LIST, p - 1))) == a && W(LABEL, W(RIGHT, W(LIST, p - 1))) == c)
                 return p;
         }
-        z = W(MEMBER, z);
     } while (z != from);
     return 0;
 }
@@ -401,7 +447,6 @@ static int explain(int all, int s, int t)
         return 0;
     if (b >= all)
         return -1;
-    memset(marks, 0, sizeof marks);
-    trace(s, t);
-    return trim(list_marked(b + 1), s, t);
+    trace(s, t, b + 1);
+    return trim(list_marked(), s, t);
 }

@@ -3,7 +3,7 @@
 use Prim.Native.Nat.{ℕ, zero, suc, _≤_, _<_}
 use native.Mathlib.Omega.{arith}
 use native.Mathlib.Decide.{ℕ-discrete, decLt}
-use mathlib.Core.Path.{_≡_, ap}
+use mathlib.Core.Path.{_≡_, ap, _∙_}
 use mathlib.Core.Logic.{_≢_, _↔_, inl, inr}
 use mathlib.Core.Bool.{Bool, true, false}
 use mathlib.Core.List.{List, [], _∷_, List·Memᴰ, List·Memᴰ·append-cases, List·Memᴰ·cases-cons, List·Memᴰ·eq-of-singleton, List·Memᴰ·not-nil, Memᴰ·append-left, Memᴰ·append-right}
@@ -24,11 +24,11 @@ use Rattle.meaning.specs.Limits.{mostTags}
 use Rattle.table.specs.Map.{whenOf, firstOf, secondOf, listOf, listIn, recAt, recordsIn, joinAt, Loaded, Within}
 use Rattle.table.proofs.Frame.{length-gather, getD-gather, gather-in, within-refl, within-trans, within-wider}
 use Rattle.table.specs.Past.{Past, ageAfter}
-use Rattle.table.specs.Places.{LIST, Part, SINCE, scratch}
+use Rattle.table.specs.Places.{LIST, Large, Part, SINCE, scratch}
 use Rattle.moment.specs.Meeting.{Met}
 use Rattle.moment.specs.Holding.{Holds, marked}
 use Rattle.reason_follow.specs.Tracing.{Together, Traced, Unmarked, Unfollowed}
-use Rattle.moment.proofs.Kept.{kept-records, kept-joins, kept-past, kept-loaded, kept-marks}
+use Rattle.moment.proofs.Kept.{kept-records, kept-joins, kept-past, kept-loaded, kept-marks, kept-whens}
 use Rattle.reason_follow.specs.Ways.{followPart}
 use Rattle.moment.proofs.Known.{join-one, join-two}
 use Rattle.moment.proofs.Moments.{met-first, met-join, met-later, met-never, made-by}
@@ -149,13 +149,19 @@ module _ {N len n s t b : ℕ} {w : List ℕ} (J : Joining N len n s t b w) wher
           frame₄ : Within scratch w w₄
           frame₄ = within-trans frame₃ (wide (omega arith) (omega arith) (Q .kept-in))
 
-          pub asks-rising : Numbered w₄ len kept
-          asks-rising = record {
-            long = omega (arith, J .past .loaded .long, frame₄ .size);
-            most = J .past .loaded .most;
-            short = omega (arith, Q .few, followed .short);
-            named = λ i l. followed .named (listOf w₄ i) (Q .fewer (listOf w₄ i) (gather-in (listOf w₄) kept i l));
-          }
+          -- The join itself was made at the last record that is listed.
+          pub asks-made : Large w₄ × (b < mostTags)
+          asks-made = (omega (arith, J .past .loaded .long, frame₄ .size), omega (arith, few, J .join))
+
+          pub asks-rising : {last : ℕ} → last ≡ whenOf w₄ b → Numbered w₄ last kept
+          asks-rising {last} e =
+              let q : last ≡ whenOf w b = e ∙ ap (λ (f : ℕ → ℕ). f b) (kept-whens frame₄) in
+              record {
+                long = asks-made .0;
+                most = omega (arith, J .past .made b (J .join) .1, J .past .loaded .most);
+                short = omega (arith, Q .few, followed .short);
+                named = λ i l. let h = named (listOf w₄ i) (Q .fewer (listOf w₄ i) (gather-in (listOf w₄) kept i l)) in (h .0, omega (arith, h .1));
+              }
 
           trimmed : Trimmed (recordsIn len w) s t (λ k. List·Memᴰ k (listIn kept w₄)) (suc (whenOf w b))
           trimmed = record {

@@ -28,7 +28,8 @@ fn reason(
     reason_follow::trace(work, s, t, b + 1);
     let n = reason_list::list_marked(work, b + 1);
     let kept = reason_trim::trim(work, size, len, n, s, t);
-    reason_order::put_rising(work, len, kept)
+    let last = moment::made(work, b);
+    reason_order::put_rising(work, last, kept)
 }
 
 // Answers whether s and t are equal by the first `before` of the records, and why.

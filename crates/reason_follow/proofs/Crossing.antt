@@ -18,16 +18,18 @@ use Rattle.meaning.proofs.Forest.{newest}
 use Rattle.meaning.proofs.Log.{linked-refl, linked-sym, linked-trans, linked-more, linked-up, put-hit, put-miss}
 use Rattle.meaning.proofs.Walk.{walk-same, walk-by, walk-cong}
 use Rattle.meaning.specs.Limits.{mostRecords, mostTags}
-use Rattle.table.specs.Map.{leftOf, rightOf, parentOf, ageOf, firstOf, secondOf, markOf, joinAt, recordsIn, Within}
-use Rattle.table.proofs.Frame.{seen-in, within-refl, within-trans, within-wider, within-set}
+use Rattle.table.specs.Map.{leftOf, rightOf, parentOf, ageOf, firstOf, secondOf, labelOf, markOf, joinAt, recordsIn, Within}
+use Rattle.table.proofs.Frame.{seen-in, seen-out, within-refl, within-trans, within-wider, within-set}
 use Rattle.table.specs.Past.{Past}
-use Rattle.table.specs.Places.{LIST, Large, MARKS, SAVED, allOf, fromTo}
+use Rattle.table.specs.Places.{LABEL, LIST, Large, MARKS, NEXT, SAVED, allOf, closurePart, fromTo, listPart}
+use Rattle.table_labels.specs.Parts.{Fresh}
 use Rattle.moment.specs.Meeting.{leaderAt, Met}
 use Rattle.moment.specs.Deep.{MetBefore}
 use Rattle.moment.specs.Holding.{Holds, marked}
+use Rattle.reason_follow.specs.Shown.{Taken, Forgot, orderPart, takenPart}
 use Rattle.reason_follow.specs.Ways.{followPart}
 use Rattle.reason_follow.specs.Tracing.{Together, Crossed, Sided, Caused, Unmarked}
-use Rattle.moment.proofs.Kept.{kept-parents, kept-ages, kept-records, kept-joins, kept-past, kept-holds, holds-fewer}
+use Rattle.moment.proofs.Kept.{kept-parents, kept-ages, kept-records, kept-joins, kept-past, kept-holds, kept-marks, holds-fewer}
 use Rattle.moment.proofs.Known.{join-one, join-two}
 
 -- The numbers of a join that is there are in their ranges.
@@ -164,3 +166,27 @@ unmarked-more {w} {w₁} {w₂} {b} l h e u = record {
 -- Where no join is marked, the marked ones rest on each other.
 pub unmarked-supported : {w w′ : List ℕ} {n : ℕ} (rs : List Rec) (e : ℕ → Join) → Unmarked w w′ n → Supported rs e (marked w′) n
 unmarked-supported {w} {w′} rs e u a l t = absurd (rw (u .none a l) at t)
+
+-- Taking a join: it is marked already; or it is now.
+pub taken-again : {w : List ℕ} {b : ℕ} → markOf w b ≡ 1 → Taken w w b
+taken-again {w} {b} q = record { kept = within-refl w; marks = fun-ext (λ a. go a (ℕ-discrete a b)) }
+  where
+    go : (a : ℕ) → Dec (a ≡ b) → marked w a ≡ put b true (marked w) a
+    go a (yes z) = rw (z, put-hit b true (marked w)) (eq-eqb (markOf w b) 1 q)
+    go a (no z) = rw (put-miss b true (marked w) a z) refl
+
+pub taken-first : {w w₁ w₂ : List ℕ} {b : ℕ} → Large w → b < mostTags → Within orderPart w w₁ → w₂ ≡ set w₁ (MARKS .at + b) 1 → Taken w w₂ b
+taken-first {w} {w₁} {w₂} {b} h l f e = record {
+  kept = within-trans (within-wider takenPart (omega arith) (omega arith) f) (rw e (within-set takenPart w₁ (MARKS .at + b) 1 (omega arith) (omega arith)));
+  marks = ap marked e ∙ marked-set w₁ b l (omega (arith, f .size)) ∙ ap (put b true) (kept-marks (within-wider listPart (omega arith) (omega arith) f));
+}
+
+pub ordered : (w : List ℕ) {w₁ w₂ : List ℕ} (i j u v : ℕ) → mostTags ≤ i → i < mostRecords → mostTags ≤ j → j < mostRecords → w₁ ≡ set w (NEXT .at + i) u → w₂ ≡ set w₁ (NEXT .at + j) v → Within orderPart w w₂
+ordered w {w₁} {w₂} i j u v l h l′ h′ p q =
+    within-trans {w′ = w₁} (rw p (within-set orderPart w (NEXT .at + i) u (omega arith) (omega arith))) (rw q (within-set orderPart w₁ (NEXT .at + j) v (omega arith) (omega arith)))
+
+pub forgot : {w w₁ w₂ : List ℕ} {i : ℕ} → i < mostRecords → Fresh w w₁ → w₂ ≡ set w₁ (NEXT .at + i) 0 → Forgot w w₂
+forgot {w} {w₁} {w₂} {i} l F e = record {
+  kept = within-trans (within-wider closurePart (omega arith) (omega arith) (F .frame)) (rw e (within-set closurePart w₁ (NEXT .at + i) 0 (omega arith) (omega arith)));
+  labels = λ x. ap (λ (f : ℕ → ℕ). f x) (ap labelOf e ∙ seen-out LABEL w₁ (NEXT .at + i) 0 (inr (omega arith))) ∙ F .labels x;
+}

@@ -1,3 +1,4 @@
 pub mod Crossing
+pub mod Shown
 pub mod Ways
 pub mod Sweep

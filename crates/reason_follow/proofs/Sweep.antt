@@ -15,13 +15,16 @@ use Rattle.meaning.specs.Needed.{Aim, tags, join, Needed, near-side, far-side, 
 use Rattle.meaning.proofs.Log.{linked-more, grounds-more}
 use Rattle.table.specs.Map.{leftOf, rightOf, firstOf, secondOf, markOf, joinAt, recordsIn, Within}
 use Rattle.table.specs.Past.{Past}
-use Rattle.table.proofs.Frame.{within-refl, within-trans}
+use Rattle.table.specs.Places.{listPart}
+use Rattle.table.proofs.Frame.{within-refl, within-trans, within-wider}
 use Rattle.moment.specs.Holding.{Holds, marked}
-use Rattle.moment.proofs.Kept.{kept-joins, kept-records, kept-past}
+use Rattle.moment.proofs.Kept.{kept-joins, kept-records, kept-past, kept-marks}
 use Rattle.moment.proofs.Known.{Two, join-one, join-two}
+use Rattle.reason_follow.specs.Shown.{Remembers, Forgot}
 use Rattle.reason_follow.specs.Ways.{followPart, Passed}
-use Rattle.reason_follow.specs.Tracing.{Unfollowed, Caused, Rested, Behind, Swept, Traced}
-use Rattle.reason_follow.proofs.Crossing.{wider}
+use Rattle.reason_follow.specs.Tracing.{Together, Unfollowed, Caused, Rested, Behind, Swept, Traced}
+use Rattle.reason_follow.proofs.Crossing.{wider, kept-together}
+use Rattle.reason_follow.proofs.Shown.{shown-none}
 
 -- Following what comes by a join comes by all that the join rests on.
 needed-through : {rs : List Rec} {e : ℕ → Join} {aim : Aim} {a b : ℕ} → Needed rs e aim b → Needed rs e (join b) a → Needed rs e aim a
@@ -32,17 +35,19 @@ needed-through itself j = j
 needed-through (lefts q k k′ i) j = lefts q k k′ (needed-through i j)
 needed-through (rights q k k′ i) j = rights q k k′ (needed-through i j)
 
-pub rested-unmarked : (w : List ℕ) (b : ℕ) → markOf w b ≢ 1 → Rested w w b
-rested-unmarked w b d = record {
+pub rested-unmarked : {w : List ℕ} {b : ℕ} → Remembers w b → markOf w b ≢ 1 → Rested w w b
+rested-unmarked {w} {b} r d = record {
   kept = within-refl w;
+  remembers = r;
   more = λ a h. h;
   grounds = λ N len n P l h. absurd (rw (ne-eqb (markOf w b) 1 d) at h);
   fresh = λ N len n P l a h. inl h;
 }
 
-pub rested-one : {w : List ℕ} {b q a a′ c c′ : ℕ} → Caused w b q a a′ c c′ → q ≡ 0 → Rested w w b
-rested-one {w} {b} k z = record {
+pub rested-one : {w : List ℕ} {b q a a′ c c′ : ℕ} → Remembers w b → Caused w b q a a′ c c′ → q ≡ 0 → Rested w w b
+rested-one {w} {b} r k z = record {
   kept = within-refl w;
+  remembers = r;
   more = λ a h. h;
   grounds = λ N len n P l h. let o = join-one P b l (sym (k .second-is) ∙ z) in rw (o .why) (equation (o .at));
   fresh = λ N len n P l a h. inl h;
@@ -57,6 +62,7 @@ needed-at p q r i = rw (← p, ← q, ← r) i
 pub rested-two : {w w₁ w₂ : List ℕ} {b q a a′ c c′ : ℕ} → Caused w b q a a′ c c′ → q ≢ 0 → markOf w b ≡ 1 → Passed w w₁ b a a′ → Passed w₁ w₂ b c c′ → Rested w w₂ b
 rested-two {w} {w₁} {w₂} {b} {q} {a} {a′} {c} {c′} k z m x y = record {
   kept = within-trans (x .kept) (y .kept);
+  remembers = y .remembers;
   more = λ i h. y .more i (x .more i h);
   grounds = λ N len n P l h. let o = two P l in
       rw (o .why) (applications (o .at) (o .at′) (linked-at refl (k .a-is) (k .a′-is) (linked-more (y .more) (x .linked))) (linked-at same (k .c-is) (k .c′-is) (y .linked)));
@@ -85,8 +91,14 @@ grounds-for q g = rw q g
 join-at : {rs rs′ : List Rec} {e e′ : ℕ → Join} {aim : Aim} {a : ℕ} → rs ≡ rs′ → e ≡ e′ → Needed rs e aim a → Needed rs′ e′ aim a
 join-at p q g = rw (← p, ← q) g
 
+marked-to : {f g : ℕ → Bool} → f ≡ g → (a : ℕ) → T (f a) → T (g a)
+marked-to q a h = rw (← q) h
+
 mark-at : (m : ℕ → Bool) {a b : ℕ} → a ≡ b → T (m a) → T (m b)
 mark-at m q h = rw (← q) h
+
+pub remembers-fewer : {w : List ℕ} {a b : ℕ} → a ≤ b → Remembers w b → Remembers w a
+remembers-fewer l r = record { top = r .top; reach = omega (arith, r .reach); shown = r .shown }
 
 pub swept-none : (w : List ℕ) (limit : ℕ) → limit ≤ 0 → Swept w w limit
 swept-none w limit z = record { kept = within-refl w; more = λ a h. h; grounds = λ N len n P l a i h. absurd (omega arith); fresh = λ N len n P l a h. inl h }
@@ -127,6 +139,32 @@ swept-more {w} {w₁} {w₂} {limit} {b} e R S = record {
         → Grounds (recordsIn len w) (Linked (joinAt w) (marked w₂) a) (joinAt w a .u) (joinAt w a .v) (joinAt w a .why)
     go N len n P l a i h (yes q) = grounds-for q (grounds-more (λ x y. linked-more (S .more)) (R .grounds N len n P (omega arith) (before N len n P l (mark-at (marked w₂) q h))))
     go N len n P l a i h (no q) = grounds-at (kept-records (wider (R .kept)) len) same (S .grounds N len n (past P) (omega arith) a (omega arith) h)
+
+-- Before the way each tag is made its own label: nothing is shown yet, and nothing else changes.
+module _ {w w₀ : List ℕ} (F : Forgot w w₀) where
+  forgot-kept : Within followPart w w₀
+  forgot-kept = within-wider followPart (omega arith) (omega arith) (F .kept)
+
+  forgot-marks : marked w₀ ≡ marked w
+  forgot-marks = kept-marks (within-wider listPart (omega arith) (omega arith) (F .kept))
+
+  pub forgot-together : {s t limit : ℕ} → Together w s t limit → Together w₀ s t limit
+  forgot-together h = kept-together forgot-kept h
+
+  pub forgot-remembers : {s t limit : ℕ} → Unfollowed w s t limit → Remembers w₀ limit
+  forgot-remembers {limit = limit} U = record { top = limit; reach = omega arith; shown = shown-none (λ a l h. U .none a l (marked-to forgot-marks a h)) (F .labels) }
+
+  pub forgot-passed : {w₁ : List ℕ} {s t limit : ℕ} → Passed w₀ w₁ limit s t → Passed w w₁ limit s t
+  forgot-passed {w₁} {s} {t} {limit} P = record {
+    kept = within-trans forgot-kept (P .kept);
+    linked = linked-at (kept-joins (wider forgot-kept)) refl refl (P .linked);
+    remembers = P .remembers;
+    more = λ a h. P .more a (marked-to (sym forgot-marks) a h);
+    fresh = λ a h. elim (P .fresh a h) [
+      | inl j ↦ inl (marked-to forgot-marks a j)
+      | inr j ↦ inr (j .0, λ rs. needed-at (kept-joins (wider forgot-kept)) refl refl (j .1 rs))
+    ];
+  }
 
 -- The way and then what it rests on.
 pub traced : {w w₁ w₂ : List ℕ} {limit s t : ℕ} → Unfollowed w s t limit → Passed w w₁ limit s t → Swept w₁ w₂ limit → Traced w w₂ limit s t (tags s t)

@@ -11,20 +11,22 @@ use lib.Dec.{T, ltb}
 use lib.ListN.{length, set}
 use borrow.Author.Tests.{lt-ltb, le-ltb}
 use Rattle.meaning.specs.Following.{Rec}
-use Rattle.meaning.specs.Joins.{Join, Linked, over, put}
+use Rattle.meaning.specs.Joins.{Join, Linked, over, Joined, put}
 use Rattle.meaning.specs.Needed.{Crosses, tags, join, Needed, near-side, far-side, across, itself}
 use Rattle.meaning.specs.Limits.{mostTags, mostRecords}
 use Rattle.meaning.proofs.Log.{linked-refl, linked-sym, linked-trans, linked-more, linked-up, put-hit, put-miss}
-use Rattle.table.specs.Map.{nextOf, joinAt, Within}
-use Rattle.table.specs.Places.{MARKS, NEXT, Large, listPart}
-use Rattle.table.proofs.Frame.{seen-in, seen-out, within-refl, within-trans, within-set}
+use Rattle.table.specs.Map.{labelOf, nextOf, joinAt, Within}
+use Rattle.table.specs.Places.{LABEL, NEXT, Large, listPart}
+use Rattle.table.proofs.Frame.{seen-at, seen-in, seen-out, seen-within, within-refl, within-trans, within-wider, within-set}
 use Rattle.moment.specs.Meeting.{leaderAt, Met}
 use Rattle.moment.specs.Deep.{MetBefore}
 use Rattle.moment.specs.Holding.{Holds, marked}
 use Rattle.moment.proofs.Kept.{kept-joins, kept-marks, holds-fewer}
+use Rattle.reason_follow.specs.Shown.{Shown, Remembers, Noted, Taken}
 use Rattle.reason_follow.specs.Ways.{followPart, Entry, ageIn, Waits, Waiting, none, after, OnWay, SomeWay, heft, pile, weight, Onward, Listed, Read, Put, Turned, Asks, Nearest, Passed}
 use Rattle.reason_follow.specs.Tracing.{Together, Crossed, Ended, Sided}
-use Rattle.reason_follow.proofs.Crossing.{holds-ranged, wider, kept-leader, kept-still, kept-together, crosses-of, crossed-of, marked-set}
+use Rattle.reason_follow.proofs.Crossing.{holds-ranged, wider, kept-leader, kept-still, kept-together, crosses-of, crossed-of}
+use Rattle.reason_follow.proofs.Shown.{any, linked-old, shown-join, shown-mark, shown-to}
 
 -- A number stands for one join, crossed in one direction.
 entry-one : {e : ℕ → Join} {v b near far b′ near′ far′ : ℕ} → b < mostTags → b′ < mostTags → Entry e v b near far → Entry e v b′ near′ far′ → (b ≡ b′) × (near ≡ near′) × (far ≡ far′)
@@ -58,8 +60,8 @@ linked-to q h = rw (← q) h
 ends-to : {e e′ : ℕ → Join} {b near far : ℕ} → e ≡ e′ → ((near ≡ e b .u) × (far ≡ e b .v)) ⊎ ((near ≡ e b .v) × (far ≡ e b .u)) → ((near ≡ e′ b .u) × (far ≡ e′ b .v)) ⊎ ((near ≡ e′ b .v) × (far ≡ e′ b .u))
 ends-to q h = rw (← q) h
 
-waiting-to : {w : List ℕ} {f f′ : ℕ → ℕ} {limit s t n low y y′ : ℕ} → f ≡ f′ → y ≡ y′ → Waiting w f limit s t n low y → Waiting w f′ limit s t n low y′
-waiting-to p q h = rw (← p, ← q) h
+waiting-to : {w : List ℕ} {f : ℕ → ℕ} {limit s t n low y y′ : ℕ} → y ≡ y′ → Waiting w f limit s t n low y → Waiting w f limit s t n low y′
+waiting-to q h = rw (← q) h
 
 leaders-to : (g : ℕ → ℕ → ℕ) {b b′ x x′ y y′ : ℕ} → b ≡ b′ → x ≡ x′ → y ≡ y′ → g b x ≡ g b y → g b′ x′ ≡ g b′ y′
 leaders-to g p q r h = rw (← p, ← q, ← r) h
@@ -163,8 +165,15 @@ nearest-first w t n z = record { first = λ q. refl; far = 0; b = 0; last = λ m
 pub nearest-last : {w : List ℕ} {n b y far : ℕ} (t : ℕ) → n ≢ 0 → Read w (n - 1) b y far → Nearest w t n y
 nearest-last {w} {n} {b} {y} {far} t d r = record { first = λ q. absurd (d q); far = far; b = b; last = λ m q. let e : n - 1 ≡ m = omega arith in rw e at r }
 
-pub way-start : {w : List ℕ} {s t limit : ℕ} → Together w s t limit → OnWay w w limit s t s t limit 0
-way-start {w} {s} {t} {limit} h = record {
+-- What joins older than b connect is linked by marked ones of these, where the labels tell that it is shown.
+shown-old : {e : ℕ → Join} {m : ℕ → Bool} {f : ℕ → ℕ} {b n x y : ℕ} → Shown e m n f → b ≤ n → x < mostTags → y < mostTags → Joined e b x y → f x ≡ f y → Linked e m b x y
+shown-old {b = b} {n = n} {x = x} {y = y} s l i k j q = linked-old n b x y (s .useful) l j (s .linked x y i k q)
+
+joined-at : {w : List ℕ} {limit b x y : ℕ} → Holds w limit → b ≤ limit → leaderAt w b x ≡ leaderAt w b y → Joined (joinAt w) b x y
+joined-at {b = b} {x = x} {y = y} h l q = h .past .history .then b (omega (arith, h .reach)) .joins x y q
+
+pub way-start : {w : List ℕ} {s t limit : ℕ} → Together w s t limit → Remembers w limit → OnWay w w limit s t s t limit 0
+way-start {w} {s} {t} {limit} h r = record {
   kept = within-refl w;
   holds = h .holds;
   x-tag = h .from;
@@ -174,13 +183,26 @@ way-start {w} {s} {t} {limit} h = record {
   under = omega arith;
   equal = h .equal;
   linked = linked-refl limit s;
+  top = r .top;
+  reach = r .reach;
+  shown = r .shown;
   needed = λ rs a i. i;
   more = λ a i. i;
   fresh = λ a i. inl i;
 }
 
-pub way-end : {w₀ w : List ℕ} {limit s t x y below n : ℕ} → OnWay w₀ w limit s t x y below n → x ≡ t → Passed w₀ w limit s t
-way-end o q = record { kept = o .kept; linked = rw q at (o .linked); more = o .more; fresh = o .fresh }
+-- What following remembers, said of the table as it is.
+way-remembers : {w₀ w : List ℕ} {limit s t x y below n : ℕ} → OnWay w₀ w limit s t x y below n → Remembers w limit
+way-remembers o = record { top = o .top; reach = o .reach; shown = shown-to (sym (kept-joins (wider (o .kept)))) refl refl (o .shown) }
+
+pub way-end : {w₀ w : List ℕ} {limit s t x y below n : ℕ} → Together w₀ s t limit → OnWay w₀ w limit s t x y below n → labelOf w x ≡ labelOf w t → Passed w₀ w limit s t
+way-end {limit = limit} h o q = record {
+  kept = o .kept;
+  linked = linked-trans (o .linked) (shown-old (o .shown) (o .reach) (o .x-tag) (h .to) (linked-trans (linked-sym (any (o .linked))) (joined-at (h .holds) (omega arith) (h .equal))) q);
+  remembers = way-remembers o;
+  more = o .more;
+  fresh = o .fresh;
+}
 
 module _ {w₀ w : List ℕ} {limit s t x y below n : ℕ} (o : OnWay w₀ w limit s t x y below n) where
   pub way-low : below ≤ limit
@@ -236,6 +258,16 @@ module _ {w₀ w : List ℕ} {limit s t x y below n : ℕ} (o : OnWay w₀ w lim
       marks : marked w′ ≡ marked w
       marks = kept-marks (rw (Q .is) (within-set listPart w (NEXT .at + n) (Q .v) (omega arith) (omega (arith, split-room))))
 
+      labels : labelOf w′ ≡ labelOf w
+      labels = ap labelOf (Q .is) ∙ seen-out LABEL w (NEXT .at + n) (Q .v) (inr (omega arith))
+
+      -- A join that was made earlier between its ends would have been one between the two tags.
+      ends-apart : Joined (joinAt w₀) b (joinAt w₀ b .u) (joinAt w₀ b .v) → ⊥
+      ends-apart j = elim (crosses .either) [
+        | inl h ↦ crosses .apart (linked-trans (crosses .from) (linked-trans (rw (h .0, h .1) j) (crosses .onto)))
+        | inr h ↦ crosses .apart (linked-trans (crosses .from) (linked-trans (rw (h .0, h .1) (linked-sym j)) (crosses .onto)))
+      ]
+
       entry : Entry (joinAt w₀) (nextOf w′ n) b near far
       entry = entry-moved (sym (kept-joins (wider (o .kept)))) last-is (Q .entry)
 
@@ -249,6 +281,7 @@ module _ {w₀ w : List ℕ} {limit s t x y below n : ℕ} (o : OnWay w₀ w lim
         waiting = after {low = o .low} {y = y} {b = b} {near = near} {far = far} (waiting-same first-same (o .waiting)) (record {
           older = omega (arith, way-crossed M .0, o .under);
           entry = entry;
+          apart = ends-apart;
           y-tag = o .y-tag;
           onto = sided-before (o .kept) D .onto;
           beyond = λ rs a i. o .needed rs a (far-side crosses i);
@@ -257,6 +290,9 @@ module _ {w₀ w : List ℕ} {limit s t x y below n : ℕ} (o : OnWay w₀ w lim
         under = omega arith;
         equal = sided-before (o .kept) D .from;
         linked = linked-to (sym marks) (o .linked);
+        top = o .top;
+        reach = o .reach;
+        shown = shown-to refl (sym marks) (sym labels) (o .shown);
         needed = λ rs a i. o .needed rs a (near-side crosses i);
         more = λ a h. mark-to (sym marks) a (o .more a h);
         fresh = λ a h. o .fresh a (mark-to marks a h);
@@ -269,11 +305,11 @@ module _ {w₀ w : List ℕ} {limit s t x y below n : ℕ} (o : OnWay w₀ w lim
           let h : heft (ageIn (nextOf w′ n)) ≡ heft b = ap heft a in
           omega (arith, p, h, heft-less b below (way-crossed M .0), heft-some b)
 
-  pub cross-some : x ≡ y → x ≢ t → 1 ≤ n
+  pub cross-some : labelOf w x ≡ labelOf w y → labelOf w x ≢ labelOf w t → 1 ≤ n
   cross-some q d = go n refl
     where
       go : (i : ℕ) → n ≡ i → 1 ≤ n
-      go zero z = absurd (d (q ∙ waiting-none (o .waiting) z))
+      go zero z = absurd (d (q ∙ ap (labelOf w) (waiting-none (o .waiting) z)))
       go (suc i) z = omega arith
 
   module _ {m : ℕ} (e : n ≡ suc m) where
@@ -289,10 +325,17 @@ module _ {w₀ w : List ℕ} {limit s t x y below n : ℕ} (o : OnWay w₀ w lim
     pub cross-asks : Asks w m
     cross-asks = record { last = λ i q. let u = waiting-last (top .rest) i q in way-listed (omega (arith, few, way-limit, q)) (omega (arith, waiting-room (u .rest))) (u .last) }
 
-    module _ {b near far y₁ : ℕ} {w′ : List ℕ} (q : x ≡ y) (R : Read w m b near far) (K : Nearest w t m y₁) (E : w′ ≡ set w (MARKS .at + b) 1) where
-      one : (b ≡ o .low) × (near ≡ y) × (far ≡ top .far)
-      one = entry-one (R .age) (omega (arith, few, way-limit)) (R .entry) (entry-moved (kept-joins (wider (o .kept))) refl (top .last .entry))
+    module _ {b near far : ℕ} (R : Read w m b near far) where
+      near-far : (near < mostTags) × (far < mostTags)
+      near-far = elim (R .entry .either) [ inl h ↦ (omega (arith, h .1, tag (cross-listed .holds) .0), omega (arith, h .2, tag (cross-listed .holds) .1)) | inr h ↦ (omega (arith, h .1, tag (cross-listed .holds) .1), omega (arith, h .2, tag (cross-listed .holds) .0)) ]
+        where
+          tag : Holds w (suc (cross-listed .b)) → (joinAt w b .u < mostTags) × (joinAt w b .v < mostTags)
+          tag h = let z : b ≡ cross-listed .b = entry-one (R .age) (omega (arith, few, way-limit)) (R .entry) (cross-listed .entry) .0 in rw z (holds-ranged h .u-tag, holds-ranged h .v-tag)
 
+      pub cross-notes : {w₁ : List ℕ} → Taken w w₁ b → Large w₁ × (near < mostTags) × (far < mostTags)
+      cross-notes E = (omega (arith, way-long, E .kept .size), near-far .0, near-far .1)
+
+    module _ {y₁ : ℕ} (K : Nearest w t m y₁) where
       next : y₁ ≡ top .y′
       next = go m refl
         where
@@ -303,11 +346,25 @@ module _ {w₀ w : List ℕ} {limit s t x y below n : ℕ} (o : OnWay w₀ w lim
               let r = K .last i z in
               entry-one (r .age) (omega (arith, waiting-room (top .rest), z, way-limit)) (r .entry) (entry-moved (kept-joins (wider (o .kept))) refl (u .last .entry)) .1
 
-      now-marked : marked w′ ≡ put b true (marked w)
-      now-marked = ap marked E ∙ marked-set w b (R .age) way-long
+      pub cross-known : y₁ < mostTags
+      cross-known = rw next (top .last .y-tag)
 
-      nexts : nextOf w′ ≡ nextOf w
-      nexts = ap nextOf E ∙ seen-out NEXT w (MARKS .at + b) 1 (inr (omega arith))
+    module _ {b near far y₁ : ℕ} {w₁ w′ : List ℕ} (q : labelOf w x ≡ labelOf w y) (R : Read w m b near far) (K : Nearest w t m y₁) (E : Taken w w₁ b) (F : Noted w₁ w′ near far) where
+      one : (b ≡ o .low) × (near ≡ y) × (far ≡ top .far)
+      one = entry-one (R .age) (omega (arith, few, way-limit)) (R .entry) (entry-moved (kept-joins (wider (o .kept))) refl (top .last .entry))
+
+      marked-then : marked w′ ≡ marked w₁
+      marked-then = kept-marks (within-wider listPart (omega arith) (omega arith) (F .kept))
+
+      now-marked : marked w′ ≡ put b true (marked w)
+      now-marked = marked-then ∙ E .marks
+
+      -- The order stands behind those that wait.
+      nexts : (k : ℕ) → k < mostTags → nextOf w′ k ≡ nextOf w k
+      nexts k l = ap (λ (f : ℕ → ℕ). f k) (seen-within NEXT (F .kept) (inr (omega arith))) ∙ seen-at NEXT w₁ k (omega arith) ∙ E .kept .same (NEXT .at + k) (inl (omega arith)) ∙ sym (seen-at NEXT w k (omega arith))
+
+      labels-first : labelOf w₁ ≡ labelOf w
+      labels-first = seen-within LABEL (E .kept) (inl (omega arith))
 
       old : (a : ℕ) → T (marked w a) → T (marked w′ a)
       old a h = mark-to (sym now-marked) a (go (ℕ-discrete a b))
@@ -320,7 +377,7 @@ module _ {w₀ w : List ℕ} {limit s t x y below n : ℕ} (o : OnWay w₀ w lim
       itself-marked = mark-to (sym now-marked) b (rw (put-hit b true (marked w)) tt)
 
       pub cross-kept : Within followPart w w′
-      cross-kept = rw E (within-set followPart w (MARKS .at + b) 1 (omega arith) (omega (arith, R .age)))
+      cross-kept = within-trans (within-wider followPart (omega arith) (omega arith) (E .kept)) (within-wider followPart (omega arith) (omega arith) (F .kept))
 
       over-it : Linked (joinAt w₀) (marked w′) (suc b) near far
       over-it = elim (R .entry .either) [
@@ -330,26 +387,32 @@ module _ {w₀ w : List ℕ} {limit s t x y below n : ℕ} (o : OnWay w₀ w lim
             rw (h .1 ∙ ap (λ (f : ℕ → Join). f b .v) e₀, h .2 ∙ ap (λ (f : ℕ → Join). f b .u) e₀) (linked-sym (over {n = b} itself-marked (linked-refl b (joinAt w₀ b .u)) (linked-refl b (joinAt w₀ b .v))))
       ]
 
-      far-tag : far < mostTags
-      far-tag =
-          let r = holds-ranged (cross-listed .holds) in
-          elim (R .entry .either) [ inl h ↦ omega (arith, h .2, tag (cross-listed .holds) .1) | inr h ↦ omega (arith, h .2, tag (cross-listed .holds) .0) ]
-        where
-          tag : Holds w (suc (cross-listed .b)) → (joinAt w b .u < mostTags) × (joinAt w b .v < mostTags)
-          tag h = let z : b ≡ cross-listed .b = entry-one (R .age) (omega (arith, few, way-limit)) (R .entry) (cross-listed .entry) .0 in rw z (holds-ranged h .u-tag, holds-ranged h .v-tag)
+      -- Up to the near end the way is shown, by what is remembered.
+      up-to-near : Linked (joinAt w₀) (marked w) limit x near
+      up-to-near = rw (one .1) (linked-up limit way-low (shown-old (o .shown) (omega (arith, way-low, o .reach)) (o .x-tag) (o .y-tag) (joined-at (o .holds) way-low (o .equal)) q))
+
+      apart-there : Joined (joinAt w₀) b (joinAt w₀ b .u) (joinAt w₀ b .v) → ⊥
+      apart-there = rw (one .0) (top .last .apart)
+
+      shown-then : Shown (joinAt w₀) (marked w′) (o .top) (labelOf w′)
+      shown-then = shown-join (near-far R .0) (near-far R .1) (F .labels) (linked-up (o .top) (omega (arith, one .0, few, o .reach)) over-it)
+          (shown-to refl (sym marked-then) (sym labels-first) (shown-mark (E .marks) apart-there (o .shown)))
 
       pub cross-way : OnWay w₀ w′ limit s t far y₁ b m
       cross-way = record {
         kept = within-trans (o .kept) cross-kept;
         holds = o .holds;
-        x-tag = far-tag;
-        y-tag = rw next (top .last .y-tag);
+        x-tag = near-far R .1;
+        y-tag = cross-known K;
         low = top .low′;
-        waiting = waiting-to (sym nexts) (sym next) (top .rest);
+        waiting = waiting-to (sym (next K)) (waiting-same (λ k l. nexts k (omega (arith, l, few, way-limit))) (top .rest));
         under = omega (arith, one .0, top .last .older);
-        equal = leaders-to (leaderAt w₀) (sym (one .0)) (sym (one .2)) (sym next) (top .last .onto);
-        linked = linked-trans (linked-more old (o .linked)) (rw (q ∙ sym (one .1)) (linked-up limit (omega (arith, one .0, few)) over-it));
-        needed = λ rs a. needed-to (sym (one .2)) (sym next) (top .last .beyond rs a);
+        equal = leaders-to (leaderAt w₀) (sym (one .0)) (sym (one .2)) (sym (next K)) (top .last .onto);
+        linked = linked-trans (linked-more old (linked-trans (o .linked) up-to-near)) (linked-up limit (omega (arith, one .0, few)) over-it);
+        top = o .top;
+        reach = o .reach;
+        shown = shown-then;
+        needed = λ rs a. needed-to (sym (one .2)) (sym (next K)) (top .last .beyond rs a);
         more = λ a h. old a (o .more a h);
         fresh = λ a h. got a (mark-to now-marked a h) (ℕ-discrete a b);
       }
@@ -360,6 +423,6 @@ module _ {w₀ w : List ℕ} {limit s t x y below n : ℕ} (o : OnWay w₀ w lim
 
       pub cross-falls : weight w′ b m < weight w below n
       cross-falls =
-          let p : pile (nextOf w′) m ≡ pile (nextOf w) m = ap (λ (f : ℕ → ℕ). pile f m) nexts in
+          let p : pile (nextOf w′) m ≡ pile (nextOf w) m = pile-same (nextOf w) (nextOf w′) m (λ k l. nexts k (omega (arith, l, few, way-limit))) in
           let h : heft (ageIn (nextOf w m)) ≡ heft b = ap heft (entry-age (R .age) (R .entry)) in
           rw e (omega (arith, p, h, heft-some below))

@@ -15,6 +15,7 @@ use Rattle.table.specs.Past.{Past}
 use Rattle.table.specs.Places.{MARKS, allOf}
 use Rattle.moment.specs.Meeting.{leaderAt, Met}
 use Rattle.moment.specs.Holding.{Holds, marked}
+use Rattle.reason_follow.specs.Shown.{Remembers}
 use Rattle.reason_follow.specs.Ways.{followPart}
 
 -- s and t are tags that the joins older than `limit` bring together.
@@ -58,7 +59,7 @@ pub record Caused (w : List ℕ) (b second a a′ c c′ : ℕ) : Type 0 where
   pub c-is : c ≡ rightOf w (firstOf w b)
   pub c′-is : c′ ≡ rightOf w (secondOf w b)
 
--- From w to w′ only marks were set, and what waited was written; and whatever records the table holds: where the marked joins rested on marked ones they still do,
+-- From w to w′ only marks were set, and what waited and what was shown was written; and whatever records the table holds: where the marked joins rested on marked ones they still do,
 -- and the marked joins older than `limit` now link s and t. No join was marked that following the aim, two tags or a join, does not come by.
 pub record Traced (w w′ : List ℕ) (limit s t : ℕ) (aim : Aim) : Type 0 where
   pub kept : Within followPart w w′
@@ -69,6 +70,7 @@ pub record Traced (w w′ : List ℕ) (limit s t : ℕ) (aim : Aim) : Type 0 whe
 -- From w to w′ marks were set of joins older than that of age b: where this is marked, marked ones now lead between its arguments, and following it comes by each that was set.
 pub record Rested (w w′ : List ℕ) (b : ℕ) : Type 0 where
   pub kept : Within followPart w w′
+  pub remembers : Remembers w′ b
   pub more : (a : ℕ) → T (marked w a) → T (marked w′ a)
   pub grounds : (N len n : ℕ) → Past N len w n → b < n → T (marked w b) → Grounds (recordsIn len w) (Linked (joinAt w) (marked w′) b) (joinAt w b .u) (joinAt w b .v) (joinAt w b .why)
   pub fresh : (N len n : ℕ) → Past N len w n → b < n → (a : ℕ) → T (marked w′ a) → T (marked w a) ⊎ ((a < b) × T (marked w b) × Needed (recordsIn len w) (joinAt w) (join b) a)

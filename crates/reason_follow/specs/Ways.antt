@@ -2,23 +2,24 @@
 -- Assumes nothing.
 use Prim.Native.Nat.{ℕ, zero, suc, _+_, _-_, _*_, _≤_, _<_}
 use mathlib.Core.Path.{_≡_}
-use mathlib.Core.Logic.{_≢_, _⊎_}
+use mathlib.Core.Logic.{_⊎_}
 use mathlib.Core.Bool.{cond}
 use mathlib.Core.List.{List}
 use lib.Dec.{T, ltb}
 use lib.ListN.{set}
 use Rattle.meaning.specs.Following.{Rec}
-use Rattle.meaning.specs.Joins.{Join, Linked}
+use Rattle.meaning.specs.Joins.{Join, Linked, Joined}
 use Rattle.meaning.specs.Needed.{tags, join, Needed}
 use Rattle.meaning.specs.Limits.{mostTags, mostRecords}
-use Rattle.table.specs.Map.{nextOf, joinAt, Within}
-use Rattle.table.specs.Places.{NEXT, SAVED, Large, Part, fromTo}
+use Rattle.table.specs.Map.{labelOf, nextOf, joinAt, Within}
+use Rattle.table.specs.Places.{LABEL, NEXT, SAVED, Part, fromTo}
 use Rattle.moment.specs.Meeting.{leaderAt}
 use Rattle.moment.specs.Holding.{Holds, marked}
+use Rattle.reason_follow.specs.Shown.{Shown, Remembers}
 
--- What following writes: the joins that wait, where the chains of a closure stand at other times, and the marks.
+-- What following writes: the labels, by which it remembers what is shown; the joins that wait, where the chains of a closure stand at other times; and the marks.
 abbrev pub followPart : Part
-followPart = fromTo (NEXT .at) (SAVED .at)
+followPart = fromTo (LABEL .at) (SAVED .at)
 
 -- How the join of age b waits to be crossed, from near to far: by its age where near is its first tag, by 1,000 more where it is its second.
 pub record Entry (e : ℕ → Join) (v b near far : ℕ) : Type 0 where
@@ -27,10 +28,11 @@ pub record Entry (e : ℕ → Join) (v b near far : ℕ) : Type 0 where
 abbrev pub ageIn : ℕ → ℕ
 ageIn v = cond (ltb v mostTags) v (v - mostTags)
 
--- A join that waits on the way from s to t: behind it older joins lead on from far to y, and following s and t comes by these and by the join.
+-- A join that waits on the way from s to t: its ends were apart before it, behind it older joins lead on from far to y, and following s and t comes by these and by the join.
 pub record Waits (w : List ℕ) (s t v low y b near far : ℕ) : Type 0 where
   pub older : b < low
   pub entry : Entry (joinAt w) v b near far
+  pub apart : Joined (joinAt w) b (joinAt w b .u) (joinAt w b .v) → ⊥
   pub y-tag : y < mostTags
   pub onto : leaderAt w b far ≡ leaderAt w b y
   pub beyond : (rs : List Rec) (a : ℕ) → Needed rs (joinAt w) (tags far y) a → Needed rs (joinAt w) (tags s t) a
@@ -41,7 +43,7 @@ pub data Waiting (w : List ℕ) (f : ℕ → ℕ) (limit s t : ℕ) : ℕ → �
   none : Waiting w f limit s t 0 limit t
   after : {n low y b near far : ℕ} → Waiting w f limit s t n low y → Waits w s t (f n) low y b near far → Waiting w f limit s t (suc n) b near
 
--- On the way from s to t, in a table that was w₀ at its start: marked joins lead from s to x, joins older than `below` from x to y, and n joins wait.
+-- On the way from s to t, in a table that was w₀ at its start: marked joins lead from s to x, joins older than `below` from x to y, and n joins wait. The labels tell what is shown.
 pub record OnWay (w₀ w : List ℕ) (limit s t x y below n : ℕ) : Type 0 where
   pub kept : Within followPart w₀ w
   pub holds : Holds w₀ limit
@@ -52,6 +54,9 @@ pub record OnWay (w₀ w : List ℕ) (limit s t x y below n : ℕ) : Type 0 wher
   pub under : below ≤ low
   pub equal : leaderAt w₀ below x ≡ leaderAt w₀ below y
   pub linked : Linked (joinAt w₀) (marked w) limit s x
+  pub top : ℕ
+  pub reach : limit ≤ top
+  pub shown : Shown (joinAt w₀) (marked w) top (labelOf w)
   pub needed : (rs : List Rec) (a : ℕ) → Needed rs (joinAt w₀) (tags x y) a → Needed rs (joinAt w₀) (tags s t) a
   pub more : (a : ℕ) → T (marked w₀ a) → T (marked w a)
   pub fresh : (a : ℕ) → T (marked w a) → T (marked w₀ a) ⊎ ((a < limit) × ((rs : List Rec) → Needed rs (joinAt w₀) (tags s t) a))
@@ -118,5 +123,6 @@ pub record Nearest (w : List ℕ) (t n y : ℕ) : Type 0 where
 pub record Passed (w w′ : List ℕ) (limit s t : ℕ) : Type 0 where
   pub kept : Within followPart w w′
   pub linked : Linked (joinAt w) (marked w′) limit s t
+  pub remembers : Remembers w′ limit
   pub more : (a : ℕ) → T (marked w a) → T (marked w′ a)
   pub fresh : (a : ℕ) → T (marked w′ a) → T (marked w a) ⊎ ((a < limit) × ((rs : List Rec) → Needed rs (joinAt w) (tags s t) a))

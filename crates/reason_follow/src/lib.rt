@@ -1,18 +1,28 @@
 // Following a reason through the joins: across the newest join between two tags, along both sides of it and into its argument pairs,
 // all of which rest on older joins. Document 01, "Reasons". What waits to be followed stands in the work table, and the one function
-// that calls itself keeps little for that call, so that less stack is needed (document 02, No. 5; bench/stack measures it). Rests on moment and table.
+// that calls itself keeps little for that call, so that less stack is needed (document 02, No. 5; bench/stack measures it). Labels remember which tags
+// are shown equal, and between these no way is followed again. Rests on moment, table_labels and table.
 ghost use mathlib.Core.Path.{_≡_};
 ghost use mathlib.Core.Logic.{_≢_};
 ghost use Prim.Native.Nat.{ℕ, suc, _+_, _≤_, _<_};
 ghost use lib.ListN.{length, set};
 ghost use Rattle.meaning.specs.Needed.{tags};
 ghost use Rattle.meaning.specs.Limits.{mostTags};
+ghost use Rattle.table.specs.Map.{labelOf, nextOf, Within};
 ghost use Rattle.table.specs.Places.{Large, MARKS};
 ghost use Rattle.moment.specs.Holding.{Holds};
+ghost use Rattle.reason_follow.specs.Shown.{Remembers, Noted, Taken, Forgot, orderPart};
 ghost use Rattle.reason_follow.specs.Tracing.{Together, Unfollowed, Crossed, Ended, Sided, Caused, Rested, Swept, Traced, Unmarked};
 ghost use Rattle.reason_follow.specs.Ways.{Listed, Read, Turned, Put, Asks, Nearest, SomeWay, Onward, Passed};
 use meaning::RecordNo;
 use meaning::Tag;
+use table::LABEL;
+use table::NEXT;
+
+// Where the order in which joins are taken stands, behind those that wait: by place the join's age, and how many there are.
+const ORDER: usize = meaning::MOST_TAGS;
+
+const TAKEN: usize = 2 * meaning::MOST_TAGS;
 
 // The two tags that a join brought together.
 pub struct Pair {
@@ -181,17 +191,82 @@ fn known(work: &[u16], t: Tag, n: usize) -> Tag
     r.near
 }
 
-// The last join that waits is crossed, and marked.
+// It is remembered that x and y are shown equal.
+fn note(work: &mut [u16], x: Tag, y: Tag)
+    requires { ⌜ Large (now work) × (x .0 < mostTags) × (y .0 < mostTags) ⌝ }
+    ensures { λ _. ⌜ Noted (now (work .entry)) (now (work .exit)) (x .0) (y .0) ⌝ }
+{
+    let a = table::label(work, x);
+    let b = table::label(work, y);
+    table_labels::rename(&mut work[LABEL..NEXT], a, b);
+}
+
+// How many joins were taken in their order. Any number is right.
+pub fn taken_count(work: &[u16]) -> usize
+    requires { ⌜ Large (now work) ⌝ }
+    ensures { λ c. ⌜ c ≤ mostTags ⌝ }
+{
+    let c = table::next(work, TAKEN);
+    if c < meaning::MOST_TAGS {
+        return c;
+    }
+    meaning::MOST_TAGS
+}
+
+// The age of the join that was taken at place i. Any number is right.
+pub fn taken_at(work: &[u16], i: usize) -> usize
+    requires { ⌜ Large (now work) × (i < mostTags) ⌝ }
+    ensures { λ a. ⌜ a ≡ nextOf (now (work .entry)) (mostTags + i) ⌝ }
+{
+    table::next(work, ORDER + i)
+}
+
+// The join of age b comes behind those that were taken.
+fn put_taken(work: &mut [u16], b: usize)
+    requires { ⌜ Large (now work) × (b < mostTags) ⌝ }
+    ensures { λ _. ⌜ Within orderPart (now (work .entry)) (now (work .exit)) ⌝ }
+{
+    let c = taken_count(work);
+    if c < meaning::MOST_TAGS {
+        table::put_next(work, ORDER + c, b);
+        table::put_next(work, TAKEN, c + 1);
+    }
+}
+
+// The join of age b is taken, unless it is already.
+fn take(work: &mut [u16], b: usize)
+    requires { ⌜ Large (now work) × (b < mostTags) ⌝ }
+    ensures { λ _. ⌜ Taken (now (work .entry)) (now (work .exit)) b ⌝ }
+{
+    if table::mark(work, b) == 1 {
+        return;
+    }
+    put_taken(work, b);
+    table::put_mark(work, b);
+}
+
+// Nothing is shown yet, and no join is taken.
+fn forget(work: &mut [u16])
+    requires { ⌜ Large (now work) ⌝ }
+    ensures { λ _. ⌜ Forgot (now (work .entry)) (now (work .exit)) ⌝ }
+{
+    table_labels::fresh(work);
+    table::put_next(work, TAKEN, 0);
+}
+
+// The way to the near end of the last join that waits is shown. That join is crossed, and taken.
 fn cross(work: &mut [u16], t: Tag, p: Way) -> Way
-    requires { ⌜ SomeWay (now work) (t .0) (p .at .0) (p .to .0) (p .below) (p .waiting) × (p .at .0 ≡ p .to .0) × (p .at .0 ≢ t .0) ⌝ }
+    requires { ⌜ SomeWay (now work) (t .0) (p .at .0) (p .to .0) (p .below) (p .waiting) × (labelOf (now work) (p .at .0) ≡ labelOf (now work) (p .to .0)) × (labelOf (now work) (p .at .0) ≢ labelOf (now work) (t .0)) ⌝ }
     ensures { λ q. ⌜ Onward (now (work .entry)) (t .0) (p .at .0) (p .to .0) (p .below) (p .waiting) (now (work .exit)) (q .at .0) (q .to .0) (q .below) (q .waiting) ⌝ }
 {
     let n = p.waiting - 1;
     let r = waiting(work, n);
+    let near = r.near;
     let far = r.far;
     let b = r.age;
     let y = known(work, t, n);
-    table::put_mark(work, b);
+    take(work, b);
+    note(work, near, far);
     Way {
         at: far,
         to: y,
@@ -200,22 +275,22 @@ fn cross(work: &mut [u16], t: Tag, p: Way) -> Way
     }
 }
 
-// One step on a way that has not come to t.
+// One step on a way that is not shown to the end: up to the next known tag it may be.
 fn step(work: &mut [u16], t: Tag, p: Way) -> Way
-    requires { ⌜ SomeWay (now work) (t .0) (p .at .0) (p .to .0) (p .below) (p .waiting) × (p .at .0 ≢ t .0) ⌝ }
+    requires { ⌜ SomeWay (now work) (t .0) (p .at .0) (p .to .0) (p .below) (p .waiting) × (labelOf (now work) (p .at .0) ≢ labelOf (now work) (t .0)) ⌝ }
     ensures { λ q. ⌜ Onward (now (work .entry)) (t .0) (p .at .0) (p .to .0) (p .below) (p .waiting) (now (work .exit)) (q .at .0) (q .to .0) (q .below) (q .waiting) ⌝ }
 {
     let at = p.at;
     let to = p.to;
-    if at.is(to) {
+    if table_labels::level(work, at, to) {
         return cross(work, t, p);
     }
     split(work, t, p)
 }
 
-// Marks the joins older than `limit` that lead from s to t.
+// Marks joins older than `limit` until marked ones lead from s to t.
 fn pass(work: &mut [u16], s: Tag, t: Tag, limit: usize)
-    requires { ⌜ Together (now work) (s .0) (t .0) limit ⌝ }
+    requires { ⌜ Together (now work) (s .0) (t .0) limit × Remembers (now work) limit ⌝ }
     ensures { λ _. ⌜ Passed (now (work .entry)) (now (work .exit)) limit (s .0) (t .0) ⌝ }
 {
     let mut p = Way {
@@ -224,14 +299,14 @@ fn pass(work: &mut [u16], s: Tag, t: Tag, limit: usize)
         below: limit,
         waiting: 0,
     };
-    while !p.at.is(t) {
+    while !table_labels::level(work, p.at, t) {
         p = step(work, t, p);
     }
 }
 
 // Where the join of age b is marked and rests on two argument pairs, marks the joins that lead between these.
 fn rest(work: &mut [u16], b: usize)
-    requires { ⌜ Holds (now work) (suc b) ⌝ }
+    requires { ⌜ Holds (now work) (suc b) × Remembers (now work) b ⌝ }
     ensures { λ _. ⌜ Rested (now (work .entry)) (now (work .exit)) b ⌝ }
 {
     if table::mark(work, b) != 1 {
@@ -253,7 +328,7 @@ fn rest(work: &mut [u16], b: usize)
 // Follows the argument pairs of the marked joins older than `limit`, from the newest down: those of a join rest on joins older than itself. This is the recursion that
 // document 01 names, and the only one here.
 fn rest_all(work: &mut [u16], limit: usize)
-    requires { ⌜ Holds (now work) limit ⌝ }
+    requires { ⌜ Holds (now work) limit × Remembers (now work) limit ⌝ }
     ensures { λ _. ⌜ Swept (now (work .entry)) (now (work .exit)) limit ⌝ }
 {
     if limit > 0 {
@@ -268,12 +343,13 @@ pub fn trace(work: &mut [u16], s: Tag, t: Tag, limit: usize)
     requires { ⌜ Unfollowed (now work) (s .0) (t .0) limit ⌝ }
     ensures { λ _. ⌜ Traced (now (work .entry)) (now (work .exit)) limit (s .0) (t .0) (tags (s .0) (t .0)) ⌝ }
 {
+    forget(work);
     pass(work, s, t, limit);
     rest_all(work, limit);
 }
 
 // A join is not taken into a reason.
-fn unmark(work: &mut [u16], a: usize)
+pub fn unmark(work: &mut [u16], a: usize)
     requires { ⌜ Large (now work) × (a < mostTags) ⌝ }
     ensures { λ _. ⌜ now (work .exit) ≡ set (now (work .entry)) (MARKS .at + a) 0 ⌝ }
 {

@@ -3,7 +3,7 @@
 use borrow.Author.Needs.{needs}
 use native.Mathlib.Omega.{arith}
 use native.Mathlib.Numerals.{add-one}
-use Rattle.reason.proofs.Whole.{asks-trace, asks-list, followed, asks-rising, reasoned}
+use Rattle.reason.proofs.Whole.{asks-trace, asks-list, followed, asks-made, asks-rising, reasoned}
 use Rattle.reason.proofs.reason.Statement.{statement}
 use Rattle.reason.proofs.reason.Tie as tie
 
@@ -25,11 +25,14 @@ list-marked-requires c κs = rw add-one (asks-list (c .before .before .before .b
 trim-requires : tie.Need-trim-requires
 trim-requires c κs = (followed (c .before .before .before .before .before .before .before .before .before .before .before .before .before .before .pre) (c .before .before .before .before .before .before .before .before .before .before .before .unmark-all .ensures) (rw add-one at (c .before .before .before .before .before .before .before .trace .ensures)) (rw add-one at (c .before .before .before .list-marked .ensures)))
 
+made-requires : tie.Need-made-requires
+made-requires c κs = asks-made (c .before .before .before .before .before .before .before .before .before .before .before .before .before .before .before .before .before .before .pre) (c .before .before .before .before .before .before .before .before .before .before .before .before .before .before .before .unmark-all .ensures) (rw add-one at (c .before .before .before .before .before .before .before .before .before .before .before .trace .ensures)) (rw add-one at (c .before .before .before .before .before .before .before .list-marked .ensures)) (c .before .before .before .trim .ensures)
+
 put-rising-requires : tie.Need-put-rising-requires
-put-rising-requires c κs = asks-rising (c .before .before .before .before .before .before .before .before .before .before .before .before .before .before .before .before .before .before .pre) (c .before .before .before .before .before .before .before .before .before .before .before .before .before .before .before .unmark-all .ensures) (rw add-one at (c .before .before .before .before .before .before .before .before .before .before .before .trace .ensures)) (rw add-one at (c .before .before .before .before .before .before .before .list-marked .ensures)) (c .before .before .before .trim .ensures)
+put-rising-requires c κs = asks-rising (c .before .before .before .before .before .before .before .before .before .before .before .before .before .before .before .before .before .before .before .before .pre) (c .before .before .before .before .before .before .before .before .before .before .before .before .before .before .before .before .before .unmark-all .ensures) (rw add-one at (c .before .before .before .before .before .before .before .before .before .before .before .before .before .trace .ensures)) (rw add-one at (c .before .before .before .before .before .before .before .before .before .list-marked .ensures)) (c .before .before .before .before .before .trim .ensures) (c .before .made .ensures)
 
 returns : tie.Need-returns
-returns c = reasoned (c .before .before .before .before .before .before .before .before .before .before .before .before .before .before .before .before .before .before .before .before .before .pre) (c .before .before .before .before .before .before .before .before .before .before .before .before .before .before .before .before .before .before .unmark-all .ensures) (rw add-one at (c .before .before .before .before .before .before .before .before .before .before .before .before .before .before .trace .ensures)) (rw add-one at (c .before .before .before .before .before .before .before .before .before .before .list-marked .ensures)) (c .before .before .before .before .before .before .trim .ensures) (c .before .before .put-rising .ensures)
+returns c = reasoned (c .before .before .before .before .before .before .before .before .before .before .before .before .before .before .before .before .before .before .before .before .before .before .before .pre) (c .before .before .before .before .before .before .before .before .before .before .before .before .before .before .before .before .before .before .before .before .unmark-all .ensures) (rw add-one at (c .before .before .before .before .before .before .before .before .before .before .before .before .before .before .before .before .trace .ensures)) (rw add-one at (c .before .before .before .before .before .before .before .before .before .before .before .before .list-marked .ensures)) (c .before .before .before .before .before .before .before .before .trim .ensures) (c .before .before .put-rising .ensures)
 
 same-length : tie.Need-same-length
 same-length c = returns c .kept .size
@@ -44,6 +47,7 @@ reason-spec =
     add-list-marked
     list-marked-requires
     trim-requires
+    made-requires
     put-rising-requires
     same-length
     returns)

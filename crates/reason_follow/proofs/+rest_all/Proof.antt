@@ -3,7 +3,7 @@ use Prim.Native.Nat.{ℕ, _<_}
 use native.Mathlib.Omega.{arith}
 use Rattle.moment.proofs.Kept.{holds-fewer}
 use Rattle.reason_follow.proofs.Crossing.{kept-still}
-use Rattle.reason_follow.proofs.Sweep.{swept-none, swept-more}
+use Rattle.reason_follow.proofs.Sweep.{remembers-fewer, swept-none, swept-more}
 use borrow.Fn.Kinds.{In}
 use borrow.Fn.PlainCycle.{Measures, is, falls, and}
 use Rattle.reason_follow.proofs.rest_all.Reads as all
@@ -26,10 +26,10 @@ sub-b : (t : ℕ) → all-lts.Need-sub-b (rest-reads.Asked, rest-reads.Learnt, a
 sub-b t c = omega (arith, c .if1 .taken)
 
 rest-requires : (t : ℕ) → all-lts.Need-rest-requires (rest-reads.Asked, rest-reads.Learnt, all-below t, all.Post) (all-at t) all.Post
-rest-requires t c = λ κs. holds-fewer (omega (arith, c .before .if1 .taken)) (c .before .before .before .pre .1)
+rest-requires t c = λ κs. (holds-fewer (omega (arith, c .before .if1 .taken)) (c .before .before .before .pre .1 .0), remembers-fewer (omega (arith, c .before .if1 .taken)) (c .before .before .before .pre .1 .1))
 
 rest-all-requires : (t : ℕ) → all-lts.Need-rest-all-requires (rest-reads.Asked, rest-reads.Learnt, all-below t, all.Post) (all-at t) all.Post
-rest-all-requires t c = λ κs. (omega (arith, c .before .before .before .before .before .before .before .pre .0, c .before .before .before .before .before .if1 .taken), kept-still (c .before .before .before .rest .ensures .kept) (holds-fewer (omega arith) (c .before .before .before .before .before .before .before .pre .1)))
+rest-all-requires t c = λ κs. (omega (arith, c .before .before .before .before .before .before .before .pre .0, c .before .before .before .before .before .if1 .taken), (kept-still (c .before .before .before .rest .ensures .kept) (holds-fewer (omega arith) (c .before .before .before .before .before .before .before .pre .1 .0)), c .before .before .before .rest .ensures .remembers))
 
 returns : (t : ℕ) → all-lts.Need-returns (rest-reads.Asked, rest-reads.Learnt, all-below t, all.Post) (all-at t) all.Post
 returns t c = swept-more (omega (arith, c .before .before .before .before .before .before .before .before .if1 .taken)) (c .before .before .before .before .before .before .rest .ensures) (c .before .before .rest-all .ensures)
