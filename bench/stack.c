@@ -1,4 +1,4 @@
-/* How much stack a run and a recheck need at most, through C: each call is made on a stack of its own that is painted before, so that the paint tells how deep it went;
+/* How much stack a run, a recheck and the passes need at most, through C: each call is made on a stack of its own that is painted before, so that the paint tells how deep it went;
  * and the deepest is made again with less and less of it, above pages that may not be touched, until it faults. The jobs are the deepest that there are, for following a
  * reason goes as deep as joins rest on joins: chains of equations, towers of applications, towers that collapse into one class, and lists at the bound of a reason; each
  * with its records forwards, backwards and shuffled. */
@@ -18,7 +18,7 @@ enum { PAGE = 4096, MOST = 1 << 20, ROOM = 1 << 20, PAINT = 0xA5 };
 
 static uint8_t job[HALTZURME_LONGEST_JOB], room[ROOM];
 static uint16_t work[HALTZURME_WORK];
-static size_t length, size, place;
+static size_t length, size, place, passes;
 static uint8_t number;
 
 /* ---- the jobs ---- */
@@ -92,10 +92,12 @@ static void make(void (*shape)(void), int order) {
 
 static uint8_t *pages;
 static ucontext_t here, there;
-static int rechecks;
+static int which; /* 0 a run, 1 a recheck, 2 the passes */
 
 static void call(void) {
-    if (rechecks)
+    if (which == 2)
+        number = haltzurme_passes(job, length, room, ROOM, work, HALTZURME_WORK, HALTZURME_MOST_TAGS, &place, &passes);
+    else if (which == 1)
         number = haltzurme_recheck(job, length, room, size, work, HALTZURME_WORK, &place);
     else
         number = haltzurme_run(job, length, room, ROOM, work, HALTZURME_WORK, &place, &size);
@@ -155,18 +157,18 @@ int main(void) {
     if (pages == MAP_FAILED) return 1;
     for (int shape = 0; shape < (int)(sizeof shapes / sizeof *shapes); shape++)
         for (int order = 0; order < 3; order++) {
-            size_t deep[2];
+            size_t deep[3];
             make(shapes[shape].shape, order);
-            for (rechecks = 0; rechecks < 2; rechecks++) {
-                deep[rechecks] = depth();
-                if (deep[rechecks] > worst) worst = deep[rechecks], worst_shape = shape, worst_order = order, worst_call = rechecks;
+            for (which = 0; which < 3; which++) {
+                deep[which] = depth();
+                if (deep[which] > worst) worst = deep[which], worst_shape = shape, worst_order = order, worst_call = which;
             }
-            printf("%-27s %-10s run %7zu recheck %7zu\n", shapes[shape].name, orders[order], deep[0], deep[1]);
+            printf("%-27s %-10s run %7zu recheck %7zu passes %7zu\n", shapes[shape].name, orders[order], deep[0], deep[1], deep[2]);
             fflush(stdout);
         }
     make(shapes[worst_shape].shape, worst_order);
-    rechecks = 0, depth();
-    rechecks = worst_call;
+    which = 0, depth();
+    which = worst_call;
     for (enough = MOST; enough > PAGE && !faults(enough - PAGE);) enough -= enough > 2 * worst ? enough / 2 / PAGE * PAGE : PAGE;
     printf("stack: at most %zu bytes; with %zu the deepest call faults, with %zu it does not; the header asks for %d\n", worst, enough - PAGE, enough, HALTZURME_STACK);
     return enough > HALTZURME_STACK;

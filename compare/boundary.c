@@ -1,4 +1,4 @@
-/* Calls both functions of the static library on the inspector's job, with dirty tables and a dirty room, and checks every answer, every byte and every number. It is
+/* Calls the functions of the static library on the inspector's job, with dirty tables and a dirty room, and checks every answer, every byte and every number. It is
  * C and C++ alike. */
 #include <stdio.h>
 #include <stdlib.h>
@@ -66,6 +66,19 @@ int main(int count, char **words) {
     expect(haltzurme_run(job, length, room, 69, work, HALTZURME_WORK - 1, &place, &size) == HALTZURME_NARROW && soiled_room(0) && soiled_work(0), "32,767 numbers give 2, and nothing changes");
     expect(haltzurme_run(job, HALTZURME_LONGEST_JOB + 1, room, 69, work, HALTZURME_WORK, &place, &size) == HALTZURME_LONG && soiled_room(0) && soiled_work(0), "46,511 bytes give 1, and nothing changes");
     expect(haltzurme_run(job, 0, room, 69, work, HALTZURME_WORK, &place, &size) == HALTZURME_SHORT && place == 0 && soiled_room(0) && zero_work(), "an empty job is refused by 3 at 0");
+    size_t passes = 77;
+    soil();
+    expect(haltzurme_passes(job, length, room, 16, work, HALTZURME_WORK, 2, &place, &passes) == HALTZURME_ACCEPTED && place == 0 && passes == 2, "two passes change something, and 16 bytes of room are enough");
+    static const uint8_t leaders[16] = {0, 0, 0, 0, 0, 0, 0, 0, 0, 4, 0, 5, 0, 6, 0, 6};
+    expect(memcmp(room, leaders, 16) == 0 && soiled_room(16) && zero_work(), "the leaders of all tags, and the room behind them as it was");
+    soil();
+    expect(haltzurme_passes(job, length, room, 16, work, HALTZURME_WORK, 1, &place, &passes) == HALTZURME_SPENT && place == 0 && passes == 0 && soiled_room(0) && zero_work(), "a limit of one gives 19 and leaves the room");
+    soil();
+    expect(haltzurme_passes(job, length, room, 15, work, HALTZURME_WORK, 1, &place, &passes) == HALTZURME_ROOM && place == 0 && passes == 0 && soiled_room(0), "15 bytes of room give 9, before 19");
+    soil();
+    expect(haltzurme_watch(job, length, room, 16, work, HALTZURME_WORK, 1, &place, &passes) == HALTZURME_ACCEPTED && place == 0 && passes == 1, "one pass can be watched");
+    static const uint8_t first[16] = {0, 0, 0, 1, 0, 0, 0, 1, 0, 4, 0, 5, 0, 6, 0, 6};
+    expect(memcmp(room, first, 16) == 0 && soiled_room(16) && zero_work(), "the leaders after it");
     puts("boundary: ok");
     return 0;
 }

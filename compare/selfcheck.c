@@ -3,6 +3,7 @@
 #include "selfcheck.h"
 #include "damage.h"
 #include "kinds.h"
+#include "passes.h"
 #include "random.h"
 
 #include <stdio.h>
@@ -392,6 +393,54 @@ static void named_inspector(void)
     free(report.at);
 }
 
+/* ---- passes ---- */
+
+/* The passes end in the classes that follow from all records, in at most N-1 that change something; the limit is told exactly, and 9 before 19. */
+static void passes_end(struct closure *closure)
+{
+    static struct passes all, some;
+    closure_start(closure, job.tags);
+    for (int k = 1; k <= job.records; k++)
+        closure_add(closure, &job.record[k]);
+    passes_of(&all, &job, 2L * job.tags, job.tags - 1);
+    expect(all.number == 0 && all.count <= job.tags - 1, "at most N-1 passes change something");
+    int right = 1;
+    for (int x = 0; x < job.tags && right; x++) {
+        int units = 0, leads = all.leader[x];
+        right = closure_same(closure, x, leads);
+        for (int y = 0; y < job.tags && right; y++) {
+            if (!closure_same(closure, x, y))
+                continue;
+            if (y >= job.units)
+                units = 1;
+            right = all.leader[y] == leads && (leads >= job.units ? y < job.units || leads <= y : leads <= y);
+        }
+        right = right && (leads >= job.units || !units);
+    }
+    expect(right, "the leaders are those of the closure of all records");
+    passes_of(&some, &job, 2L * job.tags, all.count);
+    expect(some.number == 0 && some.count == all.count && memcmp(some.leader, all.leader, sizeof all.leader) == 0, "the count is a limit that is enough");
+    if (all.count > 0) {
+        passes_of(&some, &job, 2L * job.tags, all.count - 1);
+        expect(some.number == 19, "one pass less gives 19");
+    }
+    passes_of(&some, &job, 2L * job.tags - 1, 0);
+    expect(some.number == 9, "a byte of room less gives 9, before 19");
+}
+
+static void passes(void)
+{
+    struct closure *closure = closure_new();
+    for (uint64_t seed = 401; seed < 901; seed++) {
+        if (make("small", 8, seed, 0))
+            passes_end(closure);
+        if (make("differ", 8, seed, 0))
+            passes_end(closure);
+    }
+    free(closure);
+    done("passes");
+}
+
 int selfcheck(void)
 {
     named_lists();
@@ -403,5 +452,6 @@ int selfcheck(void)
     subsets();
     reports();
     texts();
+    passes();
     return wrong > 0;
 }

@@ -1,12 +1,12 @@
 /* Haltzurme from C and C++. Link with target/staticlib/libhaltzurme_c.a, which `rt staticlib haltzurme_c` writes (x86-64); `./tagcheck --install DIR` copies both.
  *
- * Both functions take any contents and any lengths, and answer one of the documents' numbers. After HALTZURME_LONG and HALTZURME_NARROW nothing lent has changed; after any
+ * All functions take any contents and any lengths, and answer one of the documents' numbers. After HALTZURME_LONG and HALTZURME_NARROW nothing lent has changed; after any
  * other answer the first HALTZURME_WORK numbers of the work table are zero and the rest is as it was.
  *
  * What C must see to, since no proof can:
  *   - No pointer is null, also where its length is 0, and each points to as many bytes or numbers as its length says.
- *   - `work` is aligned as a uint16_t is, `place` and `size` as a size_t is. Bytes need no alignment.
- *   - What is written (the room, the work table, *place, *size) overlaps nothing else that is passed. The job and the report, which are only read, may overlap each other.
+ *   - `work` is aligned as a uint16_t is, `place`, `size` and `passes` as a size_t is. Bytes need no alignment.
+ *   - What is written (the room, the work table, *place, *size, *passes) overlaps nothing else that is passed. The job and the report, which are only read, may overlap each other.
  * Nothing is kept between two calls, so that threads may call at the same time with tables of their own.
  *
  * Nothing checks these declarations against the Rattle source, crates/haltzurme_c/src/lib.rt, but compare/boundary, which runs both: keep them alike. */
@@ -35,7 +35,8 @@ enum haltzurme_number {
     HALTZURME_UNSOUND = 10, /* the recheck: the report is at fault. The first byte of the first field at fault */
     HALTZURME_FIRST_TAG = 11,  /* the first tag of a field is N or more. From here to 13: the tag's own first byte */
     HALTZURME_SECOND_TAG = 12, /* the second tag of a field is N or more */
-    HALTZURME_THIRD_TAG = 13   /* the third tag of a field is N or more */
+    HALTZURME_THIRD_TAG = 13,  /* the third tag of a field is N or more */
+    HALTZURME_SPENT = 19       /* the passes: more than the limit change something. Place 0 */
 };
 
 /* The limits of the documents. */
@@ -76,6 +77,14 @@ uint8_t haltzurme_run(const uint8_t *job, size_t job_length, uint8_t *room, size
 
 /* Rechecks a report, which is not changed. On 10 *place is the first byte of the first field at fault. */
 uint8_t haltzurme_recheck(const uint8_t *job, size_t job_length, const uint8_t *report, size_t report_length, uint16_t *work, size_t work_length, size_t *place);
+
+/* Closes all records of a job by passes, at most `limit` of which may change something. On 0 *passes is their count, and the leader of every tag stands in order at the front of the
+ * room, 2N bytes; on a refusal the room is unchanged and *passes is 0. The room must have 2N bytes (else HALTZURME_ROOM); questions need none. */
+uint8_t haltzurme_passes(const uint8_t *job, size_t job_length, uint8_t *room, size_t room_length, uint16_t *work, size_t work_length, size_t limit, size_t *place, size_t *passes);
+
+/* Makes at most `most` of these passes, for those who watch. On 0 *passes says how many were made (fewer than `most` only where no more change anything), and the room has the leader of
+ * every tag by the classes after them; else as haltzurme_passes, without HALTZURME_SPENT. */
+uint8_t haltzurme_watch(const uint8_t *job, size_t job_length, uint8_t *room, size_t room_length, uint16_t *work, size_t work_length, size_t most, size_t *place, size_t *passes);
 
 #ifdef __cplusplus
 }

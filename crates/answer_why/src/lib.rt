@@ -31,7 +31,7 @@ use report_write::put_tag;
 use report_write::write_bare;
 
 // The leader of a tag goes to its place in a list of leaders that begins at `at`.
-fn put_leader(room: &mut [u8], at: usize, work: &[u16], i: usize)
+pub fn put_leader(room: &mut [u8], at: usize, work: &[u16], i: usize)
     requires { ⌜ Large (now work) × (i < mostTags) × (labelOf (now work) i < mostTags) × (at + 2 * i + 2 ≤ length (now room)) ⌝ }
     ensures { λ _. ⌜ now (room .exit) ≡ laid (at + 2 * i) (two (leaderIn (now (work .entry)) i)) (now (room .entry)) ⌝ }
 {

@@ -1,8 +1,13 @@
-// The tool for C: the run and the recheck on plain pointers and lengths. A slice is passed as a pointer and then a length; include/haltzurme.h
-// declares both functions. They lend a record table of their own and have no condition on their caller. Rests on haltzurme_own.
+// The tool for C: the run, the recheck and the passes on plain pointers and lengths. A slice is passed as a pointer and then a length; include/haltzurme.h
+// declares the functions. They lend a record table of their own and have no condition on their caller. Rests on haltzurme_own
+// and slow_own.
 ghost use Rattle.haltzurme_own.specs.Plain.{RanAlone, RecheckedAlone};
+ghost use Rattle.slow_own.specs.Plain.{CountedAlone};
+ghost use mathlib.Core.Bool.{true, false};
 use haltzurme_own::recheck_report;
 use haltzurme_own::run_job;
+use slow_own::count_passes;
+use slow_own::watch_passes;
 
 // Answers a job: the number is the result; the place and the report's length are written.
 #[no_mangle]
@@ -34,4 +39,40 @@ pub extern "C" fn haltzurme_recheck(
     let f = recheck_report(job, report, work);
     *place = f.place;
     f.number
+}
+
+// Closes all records of a job by passes: the number is the result; the place and the count are written.
+#[no_mangle]
+pub extern "C" fn haltzurme_passes(
+    job: &[u8],
+    room: &mut [u8],
+    work: &mut [u16],
+    limit: usize,
+    place: &mut usize,
+    passes: &mut usize,
+) -> u8
+    ensures { λ n. ⌜ CountedAlone (now (job .entry)) (now (room .entry)) (now (work .entry)) limit false n (now (place .exit)) (now (passes .exit)) (now (room .exit)) (now (work .exit)) ⌝ }
+{
+    let c = count_passes(job, room, work, limit);
+    *place = c.place;
+    *passes = c.passes;
+    c.number
+}
+
+// Makes at most so many passes: the number is the result; the place and how many were made are written.
+#[no_mangle]
+pub extern "C" fn haltzurme_watch(
+    job: &[u8],
+    room: &mut [u8],
+    work: &mut [u16],
+    most: usize,
+    place: &mut usize,
+    passes: &mut usize,
+) -> u8
+    ensures { λ n. ⌜ CountedAlone (now (job .entry)) (now (room .entry)) (now (work .entry)) most true n (now (place .exit)) (now (passes .exit)) (now (room .exit)) (now (work .exit)) ⌝ }
+{
+    let c = watch_passes(job, room, work, most);
+    *place = c.place;
+    *passes = c.passes;
+    c.number
 }

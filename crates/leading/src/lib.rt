@@ -39,7 +39,7 @@ fn label_all(work: &mut [u16], size: usize, age: usize)
 }
 
 // Every label has the first unit with it for its seat, or itself where no unit has it. The units are gone through from the last to the first.
-fn seat_units(work: &mut [u16], size: usize, unit: usize)
+pub fn seat_units(work: &mut [u16], size: usize, unit: usize)
     requires { ⌜ Seatable (now work) size unit ⌝ }
     ensures { λ _. ⌜ Seated (now (work .entry)) (now (work .exit)) size unit ⌝ }
 {

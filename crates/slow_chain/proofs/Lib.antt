@@ -1,0 +1,4 @@
+pub mod Chain
+pub mod Loops
+pub mod Views
+pub mod Rows
