@@ -1,4 +1,4 @@
-/* Calls the functions of the static library on the inspector's job, with dirty tables and a dirty room, and checks every answer, every byte and every number. It is
+/* Calls the functions of the static library on the inspector's job and on a small script, with dirty tables and a dirty room, and checks every answer, every byte and every number. It is
  * C and C++ alike. */
 #include <stdio.h>
 #include <stdlib.h>
@@ -37,6 +37,37 @@ static int zero_work(void) {
     for (size_t i = 0; i < HALTZURME_WORK; i++)
         if (work[i]) return 0;
     return 1;
+}
+
+/* The room of a script's job is longer than the others: it is soiled and looked at by itself. */
+static uint8_t long_room[HALTZURME_LONGEST_JOB + 3], script[HALTZURME_LONGEST_SCRIPT + 1];
+
+static int soiled_long(size_t from) {
+    for (size_t i = from; i < sizeof long_room; i++)
+        if (long_room[i] != (uint8_t)(i * 5 + 2)) return 0;
+    return 1;
+}
+
+static void soil_long(void) {
+    soil();
+    for (size_t i = 0; i < sizeof long_room; i++) long_room[i] = (uint8_t)(i * 5 + 2);
+}
+
+static void scripts(void) {
+    static const char text[] = "(set-logic QF_UF)(declare-sort U 0)(declare-fun a () U)(declare-fun b () U)(assert (= a b))(check-sat)(exit)";
+    static const uint8_t wanted[] = {0x10, 0, 2, 0, 2, 1, 0, 4, 0, 0, 0, 1, 6, 0, 0, 0x7F, 0, 0};
+    size_t length = sizeof text - 1, place = 77, size = 77;
+    memcpy(script, text, length);
+    soil_long();
+    expect(haltzurme_script(script, length, long_room, sizeof long_room, work, HALTZURME_WORK + 5, &place, &size) == HALTZURME_ACCEPTED && place == 0 && size == sizeof wanted, "a script becomes a job");
+    expect(memcmp(long_room, wanted, sizeof wanted) == 0 && soiled_long(sizeof wanted) && zero_work() && soiled_work(HALTZURME_WORK), "the job, the room behind it and the table");
+    soil_long();
+    expect(haltzurme_script(script, length - 6, long_room, sizeof long_room, work, HALTZURME_WORK, &place, &size) == HALTZURME_SUBSET && place == length - 6 && size == 0, "a script that ends too soon");
+    expect(soiled_long(0) && zero_work(), "leaves the room");
+    soil_long();
+    expect(haltzurme_script(script, length, long_room, HALTZURME_LONGEST_JOB - 1, work, HALTZURME_WORK, &place, &size) == HALTZURME_NARROW && soiled_long(0) && soiled_work(0), "46,509 bytes of room give 2");
+    expect(haltzurme_script(script, length, long_room, sizeof long_room, work, HALTZURME_WORK - 1, &place, &size) == HALTZURME_NARROW && soiled_long(0) && soiled_work(0), "32,767 numbers give 2");
+    expect(haltzurme_script(script, HALTZURME_LONGEST_SCRIPT + 1, long_room, sizeof long_room, work, HALTZURME_WORK, &place, &size) == HALTZURME_LONG && soiled_long(0) && soiled_work(0), "60,001 bytes give 1");
 }
 
 int main(int count, char **words) {
@@ -79,6 +110,7 @@ int main(int count, char **words) {
     expect(haltzurme_watch(job, length, room, 16, work, HALTZURME_WORK, 1, &place, &passes) == HALTZURME_ACCEPTED && place == 0 && passes == 1, "one pass can be watched");
     static const uint8_t first[16] = {0, 0, 0, 1, 0, 0, 0, 1, 0, 4, 0, 5, 0, 6, 0, 6};
     expect(memcmp(room, first, 16) == 0 && soiled_room(16) && zero_work(), "the leaders after it");
+    scripts();
     puts("boundary: ok");
     return 0;
 }

@@ -36,6 +36,9 @@ enum haltzurme_number {
     HALTZURME_FIRST_TAG = 11,  /* the first tag of a field is N or more. From here to 13: the tag's own first byte */
     HALTZURME_SECOND_TAG = 12, /* the second tag of a field is N or more */
     HALTZURME_THIRD_TAG = 13,  /* the third tag of a field is N or more */
+    HALTZURME_SUBSET = 14,     /* a script: outside the subset, or it ends too soon. From here to 16: the first byte of the token, or the script's length */
+    HALTZURME_NAME = 15,       /* a script: a name undeclared or declared twice, or a wrong number of arguments */
+    HALTZURME_LIMIT = 16,      /* a script: above a limit of the job, of a name or of the depth */
     HALTZURME_SPENT = 19       /* the passes: more than the limit change something. Place 0 */
 };
 
@@ -45,7 +48,8 @@ enum haltzurme_limit {
     HALTZURME_MOST_RECORDS = 4000,
     HALTZURME_MOST_QUESTIONS = 1000,
     HALTZURME_MOST_PAIRS = 500,         /* that must differ */
-    HALTZURME_LONGEST_JOB = 46510,      /* bytes */
+    HALTZURME_LONGEST_JOB = 46510,      /* bytes; a script's job is lent as many */
+    HALTZURME_LONGEST_SCRIPT = 60000,   /* bytes */
     HALTZURME_LONGEST_REPORT = 4001007, /* bytes that are enough room for every job */
     HALTZURME_WORK = 32768,             /* numbers of the work table */
     HALTZURME_STACK = 81920             /* bytes of stack that a call may need, with a margin: bench/stack measures 64,728 on the deepest jobs */
@@ -85,6 +89,10 @@ uint8_t haltzurme_passes(const uint8_t *job, size_t job_length, uint8_t *room, s
 /* Makes at most `most` of these passes, for those who watch. On 0 *passes says how many were made (fewer than `most` only where no more change anything), and the room has the leader of
  * every tag by the classes after them; else as haltzurme_passes, without HALTZURME_SPENT. */
 uint8_t haltzurme_watch(const uint8_t *job, size_t job_length, uint8_t *room, size_t room_length, uint16_t *work, size_t work_length, size_t most, size_t *place, size_t *passes);
+
+/* Reads an SMT-LIB script. On 0 the job that it becomes stands at the front of the room and *size is its length; on a refusal the room is unchanged, *size is 0 and *place says
+ * where. HALTZURME_LONG: the script is longer than HALTZURME_LONGEST_SCRIPT. HALTZURME_NARROW: the room is shorter than HALTZURME_LONGEST_JOB, or the work table too short. */
+uint8_t haltzurme_script(const uint8_t *script, size_t script_length, uint8_t *room, size_t room_length, uint16_t *work, size_t work_length, size_t *place, size_t *size);
 
 #ifdef __cplusplus
 }

@@ -1,11 +1,14 @@
-// The tool for C: the run, the recheck and the passes on plain pointers and lengths. A slice is passed as a pointer and then a length; include/haltzurme.h
-// declares the functions. They lend a record table of their own and have no condition on their caller. Rests on haltzurme_own
-// and slow_own.
+// The tool for C: the run, the recheck, the passes and the translation of a script on plain pointers and lengths. A slice is passed as a pointer and then a length;
+// include/haltzurme.h declares the functions. They lend a record table of their own, or need none, and have no condition on their caller. Rests on haltzurme_own,
+// slow_own and script_call.
+ghost use Prim.Native.Nat.{ℕ};
 ghost use Rattle.haltzurme_own.specs.Plain.{RanAlone, RecheckedAlone};
 ghost use Rattle.slow_own.specs.Plain.{CountedAlone};
 ghost use mathlib.Core.Bool.{true, false};
+ghost use Rattle.script_call.specs.Translating.{Answered};
 use haltzurme_own::recheck_report;
 use haltzurme_own::run_job;
+use script_call::translate_beside;
 use slow_own::count_passes;
 use slow_own::watch_passes;
 
@@ -75,4 +78,21 @@ pub extern "C" fn haltzurme_watch(
     *place = c.place;
     *passes = c.passes;
     c.number
+}
+
+// Reads a script: the number is the result; the place and the job's length are written. It is the call of a record table with as many places as are named.
+#[no_mangle]
+pub extern "C" fn haltzurme_script(
+    script: &[u8],
+    room: &mut [u8],
+    work: &mut [u16],
+    place: &mut usize,
+    size: &mut usize,
+) -> u8
+    ensures { λ n. ⌜ Answered (now (script .entry)) (now (room .entry)) (now (work .entry)) n (now (place .exit)) (now (size .exit)) (now (room .exit)) (now (work .exit)) ⌝ }
+{
+    let t = translate_beside(script, room, work, script_call::PLACES);
+    *place = t.place;
+    *size = t.length;
+    t.number
 }

@@ -1,0 +1,3 @@
+pub mod Tokens
+pub mod Reading
+pub mod Bytes

@@ -1,0 +1,4 @@
+pub mod Sums
+pub mod Names
+pub mod Symbols
+pub mod Held
