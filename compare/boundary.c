@@ -1,4 +1,4 @@
-/* Calls the functions of the static library on the inspector's job and on a small script, with dirty tables and a dirty room, and checks every answer, every byte and every number. It is
+/* Calls the functions of the static library on the inspector's job and on a small script and on a plain harness sheet, with dirty tables and a dirty room, and checks every answer, every byte and every number. It is
  * C and C++ alike. */
 #include <stdio.h>
 #include <stdlib.h>
@@ -111,6 +111,16 @@ int main(int count, char **words) {
     static const uint8_t first[16] = {0, 0, 0, 1, 0, 0, 0, 1, 0, 4, 0, 5, 0, 6, 0, 6};
     expect(memcmp(room, first, 16) == 0 && soiled_room(16) && zero_work(), "the leaders after it");
     scripts();
+
+    soil();
+    expect(haltzurme_harness_run(job, length, room, sizeof room, work, HALTZURME_WORK, &place, &size) == HALTZURME_KIND && place == 5 && size == 0 && soiled_room(0) && zero_work(), "the harness profile refuses the inspector's first record");
+    static const uint8_t sheet[] = {0x10, 0, 2, 0, 3, 1, 0, 4, 0, 0, 0, 1, 1, 0, 4, 0, 1, 0, 2, 1, 0, 4, 0, 0, 0, 2, 4, 0, 4, 0, 0, 0, 2, 0x7F, 0, 0};
+    static const uint8_t wanted[] = {0x84, 0, 2, 0, 3, 0x8F, 0, 4, 0, 1, 0, 1};
+    soil();
+    expect(haltzurme_harness_run(sheet, sizeof sheet, room, sizeof room, work, HALTZURME_WORK + 5, &place, &size) == HALTZURME_ACCEPTED && place == 0 && size == sizeof wanted && memcmp(room, wanted, size) == 0, "0=1, 1=2, 0=2 gives 3 for 0 and 2");
+    expect(soiled_room(size) && zero_work() && soiled_work(HALTZURME_WORK), "the room behind the report and the table's rest are as they were");
+    expect(haltzurme_harness_recheck(sheet, sizeof sheet, wanted, sizeof wanted, work, HALTZURME_WORK, &place) == HALTZURME_ACCEPTED && place == 0, "the report passes the harness recheck");
+    expect(haltzurme_recheck(sheet, sizeof sheet, wanted, sizeof wanted, work, HALTZURME_WORK, &place) == HALTZURME_UNSOUND && place == 0, "and is at fault for the other");
     puts("boundary: ok");
     return 0;
 }

@@ -94,6 +94,11 @@ uint8_t haltzurme_watch(const uint8_t *job, size_t job_length, uint8_t *room, si
  * where. HALTZURME_LONG: the script is longer than HALTZURME_LONGEST_SCRIPT. HALTZURME_NARROW: the room is shorter than HALTZURME_LONGEST_JOB, or the work table too short. */
 uint8_t haltzurme_script(const uint8_t *script, size_t script_length, uint8_t *room, size_t room_length, uint16_t *work, size_t work_length, size_t *place, size_t *size);
 
+/* The same in the harness profile, for jobs whose records are all of kind 01: an HALTZURME_APPLICATION is refused by HALTZURME_KIND, before its length is looked at, and a reason
+   has the fewest records possible; of equally short ones it is the smallest by first differing record number. So a job has one sound report. */
+uint8_t haltzurme_harness_run(const uint8_t *job, size_t job_length, uint8_t *room, size_t room_length, uint16_t *work, size_t work_length, size_t *place, size_t *size);
+uint8_t haltzurme_harness_recheck(const uint8_t *job, size_t job_length, const uint8_t *report, size_t report_length, uint16_t *work, size_t work_length, size_t *place);
+
 #ifdef __cplusplus
 }
 #endif

@@ -19,7 +19,7 @@ pub struct Answer {
 }
 
 // What was seen, with number 9 where the room is smaller than needed. A refusal needs none, so 9 is last.
-fn fit(s: Sight, room: usize) -> Sight
+pub fn fit(s: Sight, room: usize) -> Sight
     ensures { λ r. ⌜ Fitted s room r ⌝ }
 {
     if room < s.needed {
@@ -67,7 +67,7 @@ pub struct Finding {
 }
 
 // The answer that a judgement comes to.
-fn found(j: Judgement) -> Finding
+pub fn found(j: Judgement) -> Finding
     ensures { λ r. ⌜ r ≡ findingOf j ⌝ }
 {
     match j {

@@ -31,7 +31,7 @@ pub fn run_over(job: &[u8], room: &mut [u8], work: &mut [u16], each: Record) -> 
 }
 
 // A place of a blank table.
-fn none() -> Record
+pub fn none() -> Record
     ensures { λ r. ⌜ r ≡ blank ⌝ }
 {
     Record {

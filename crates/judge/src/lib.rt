@@ -57,7 +57,7 @@ pub enum Turn {
 }
 
 // A question, among what the closure left.
-fn posed(closed: Closed, before: usize, s: Tag, t: Tag) -> Question
+pub fn posed(closed: Closed, before: usize, s: Tag, t: Tag) -> Question
     ensures { λ q. ⌜ q ≡ question closed before s t ⌝ }
 {
     Question {
@@ -72,7 +72,7 @@ fn posed(closed: Closed, before: usize, s: Tag, t: Tag) -> Question
 }
 
 // Whether the totals close the report at a place, and nothing stands behind them.
-fn ended(report: &[u8], at: usize, classes: usize, idle: usize) -> Judgement
+pub fn ended(report: &[u8], at: usize, classes: usize, idle: usize) -> Judgement
     requires { ⌜ (at ≤ length (now report)) × (classes < 65536) × (idle < 65536) ⌝ }
     ensures { λ r. ⌜ Ended (now (report .entry)) at classes idle r ⌝ }
 {
@@ -88,7 +88,7 @@ fn ended(report: &[u8], at: usize, classes: usize, idle: usize) -> Judgement
 }
 
 // What a question's field leads to, where the next item of the job stands at `at` and the field at `place` of the report.
-fn onward(passed: Passed, at: usize, place: usize, before: usize, differs: usize) -> Turn
+pub fn onward(passed: Passed, at: usize, place: usize, before: usize, differs: usize) -> Turn
     ensures { λ r. ⌜ r ≡ behind passed at place before differs ⌝ }
 {
     match passed {
@@ -103,7 +103,7 @@ fn onward(passed: Passed, at: usize, place: usize, before: usize, differs: usize
 }
 
 // What the closure left, as the pairs are marked by it.
-fn left(closed: Closed) -> Left
+pub fn left(closed: Closed) -> Left
     ensures { λ c. ⌜ c ≡ leftOf closed ⌝ }
 {
     Left {

@@ -1,0 +1,4 @@
+pub mod Ran
+pub mod Rechecked
+pub mod One
+pub mod Passing

@@ -1,0 +1,3 @@
+pub mod Breach
+pub mod Midway
+pub mod Whole

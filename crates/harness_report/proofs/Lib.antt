@@ -1,0 +1,4 @@
+pub mod Fits
+pub mod Fault
+pub mod One
+pub mod Known

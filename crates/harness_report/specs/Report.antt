@@ -1,0 +1,34 @@
+-- DEFINITIONS, to be read against document 02, No. 8: the report of a plain harness sheet. Fields, totals and their order are document 01's, and only which list is a reason
+-- is its own: "whose reason has the fewest records possible among those before the question; of equally short ones, the smallest by first differing record number".
+-- Assumes nothing.
+use Prim.Native.Nat.{ℕ}
+use mathlib.Core.List.{List, [], _∷_, _++_}
+use Rattle.meaning.specs.Following.{Follows, UpTo}
+use Rattle.job_field.specs.Items.{Matter, Note, Moment, after, Question, ask, explain, broken, why, Item, noted, posed}
+use Rattle.report.specs.Broken.{pairNo, Earliest, Unbroken}
+use Rattle.report.specs.Report.{numbers, field, Answers, Totalled}
+use Rattle.harness_meaning.specs.Harness.{Harness}
+
+-- A list is the reason for s and t at a moment.
+abbrev pub ReasonAt : Matter → Moment → ℕ → ℕ → List ℕ → Type 0
+ReasonAt M b s t L = Harness (M .head .size) (M .records) (b .records) s t L
+
+-- .. and for the tags of pair number k, since "demand 3 covers reasons in 86 too" (No. 1).
+abbrev pub PairReasonAt : Matter → Moment → ℕ → List ℕ → Type 0
+PairReasonAt M b k L = ReasonAt M b (pairNo (M .pairs) k .first) (pairNo (M .pairs) k .second) L
+
+-- The right fields for a question at its moment. An ask and a why are answered as elsewhere; an explain by the reason (84 hex, 132) or that the equality does not follow (85); a
+-- 06 by the number of the earliest broken pair and the reason for its tags (86), or that none is broken (87).
+pub data HarnessAnswers (M : Matter) (b : Moment) : Question → List ℕ → Type 0 where
+  asked : {s t : ℕ} {f : List ℕ} → Answers M b (ask s t) f → HarnessAnswers M b (ask s t) f
+  because : {s t : ℕ} {L : List ℕ} → ReasonAt M b s t L → HarnessAnswers M b (explain s t) (field 132 (numbers L))
+  apart : {s t : ℕ} → (Follows (UpTo (M .records) (b .records)) s t → ⊥) → HarnessAnswers M b (explain s t) (field 133 [])
+  breached : {k : ℕ} {L : List ℕ} → Earliest (M .records) (b .records) (M .pairs) (b .differs) k → PairReasonAt M b k L → HarnessAnswers M b broken (field 134 (numbers (k ∷ L)))
+  intact : Unbroken (M .records) (b .records) (M .pairs) (b .differs) → HarnessAnswers M b broken (field 135 [])
+  doubted : {s t : ℕ} {f : List ℕ} → Answers M b (why s t) f → HarnessAnswers M b (why s t) f
+
+-- A sound report of the items from a moment on: each question is answered at its moment, and the totals close the report.
+pub data HarnessSound (M : Matter) : Moment → List Item → List ℕ → Type 0 where
+  totals : {b : Moment} {bs : List ℕ} → Totalled M bs → HarnessSound M b [] bs
+  passed : {b : Moment} {n : Note} {is : List Item} {bs : List ℕ} → HarnessSound M (after (noted n) b) is bs → HarnessSound M b (noted n ∷ is) bs
+  answered : {b : Moment} {q : Question} {f : List ℕ} {is : List Item} {bs : List ℕ} → HarnessAnswers M b q f → HarnessSound M (after (posed q) b) is bs → HarnessSound M b (posed q ∷ is) (f ++ bs)

@@ -1,0 +1,4 @@
+pub mod Ready
+pub mod Profile
+pub mod Finishing
+pub mod Weighing
