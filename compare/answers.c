@@ -395,6 +395,27 @@ static void field_add(struct bytes *out, int kind, const int *numbers, int count
         number_add(out, numbers[i]);
 }
 
+/* Document 02, No. 9: the distinct sheets of a list of records, rising, without 0. Gives the count. */
+static int sheets_of(const struct job *job, const int *numbers, int count, int *sheets)
+{
+    char there[MOST_SHEET + 1] = {0};
+    int found = 0;
+    for (int i = 0; i < count; i++)
+        there[job->record[numbers[i]].sheet] = 1;
+    for (int sheet = 1; sheet <= MOST_SHEET; sheet++)
+        if (there[sheet])
+            sheets[found++] = sheet;
+    return found;
+}
+
+/* 8A behind an 84 or 86, in edition 2. */
+static void sheets_add(struct bytes *out, const struct job *job, const int *numbers, int count)
+{
+    int sheets[MOST_RECORDS];
+    if (job->edition == 2)
+        field_add(out, KIND_SHEETS, sheets, sheets_of(job, numbers, count, sheets));
+}
+
 /* Document 02, No. 7: the leader of every tag in order, or no body where the equality follows. */
 static void why_add(struct bytes *out, const struct job *job, const struct history *history, int question)
 {
@@ -414,16 +435,20 @@ void report_write(const struct job *job, const struct history *history, uint64_t
         const struct moment *m = &history->moment[i];
         if (job->question[i].broken && m->pair > 0) {
             numbers[0] = m->pair;
-            field_add(out, KIND_BREACH, numbers, 1 + reason_find(job, history, i, order, numbers + 1));
+            int count = reason_find(job, history, i, order, numbers + 1);
+            field_add(out, KIND_BREACH, numbers, 1 + count);
+            sheets_add(out, job, numbers + 1, count);
         } else if (job->question[i].broken)
             field_add(out, KIND_WHOLE, NULL, 0);
         else if (job->question[i].why)
             why_add(out, job, history, i);
         else if (!job->question[i].explain)
             field_add(out, KIND_LEADERS, (int[]){m->leader_s, m->leader_t}, 2);
-        else if (m->follows)
-            field_add(out, KIND_REASON, numbers, reason_find(job, history, i, order, numbers));
-        else
+        else if (m->follows) {
+            int count = reason_find(job, history, i, order, numbers);
+            field_add(out, KIND_REASON, numbers, count);
+            sheets_add(out, job, numbers, count);
+        } else
             field_add(out, KIND_NOT, NULL, 0);
     }
     field_add(out, KIND_TOTALS, (int[]){history->classes, history->idle}, 2);
@@ -469,6 +494,17 @@ static size_t right_field(const struct job *job, const struct history *history, 
     return kind == KIND_REASON && reason_fault(job, history, question, numbers, count) == 0 ? whole : 0;
 }
 
+/* The bytes that must stand behind a right field: an 8A behind an 84 or 86 of edition 2, otherwise none. */
+static void behind_field(const struct job *job, const unsigned char *field, struct bytes *out)
+{
+    int numbers[MOST_RECORDS + 1], count = two_bytes(field + 1) / 2, breach = field[0] == KIND_BREACH;
+    if (!breach && field[0] != KIND_REASON)
+        return;
+    for (int i = breach; i < count; i++)
+        numbers[i - breach] = two_bytes(field + 3 + 2 * i);
+    sheets_add(out, job, numbers, count - breach);
+}
+
 int report_judge(const struct job *job, const struct history *history, const unsigned char *report, size_t length, long *place)
 {
     size_t at = 0;
@@ -478,13 +514,35 @@ int report_judge(const struct job *job, const struct history *history, const uns
             *place = (long)at;
             return 10;
         }
+        struct bytes next = {0};
+        behind_field(job, report + at, &next);
         at += field;
+        int missing = length - at < next.length || (next.length > 0 && memcmp(report + at, next.at, next.length) != 0);
+        if (!missing)
+            at += next.length;
+        free(next.at);
+        if (missing) {
+            *place = (long)at;
+            return 10;
+        }
     }
     *place = at < length ? (long)at : 0;
     return at < length ? 10 : 0;
 }
 
 /* ---- lines ---- */
+
+/* The line H behind an E or C line, in edition 2: how many sheets, and which. */
+static void sheets_line(const struct job *job, const int *numbers, int count, struct bytes *out)
+{
+    int sheets[MOST_RECORDS], found = sheets_of(job, numbers, count, sheets);
+    if (job->edition != 2)
+        return;
+    text_add(out, "H %d", found);
+    for (int i = 0; i < found; i++)
+        text_add(out, " %d", sheets[i]);
+    text_add(out, "\n");
+}
 
 static void line_write(const struct job *job, const struct history *history, int i, struct bytes *out)
 {
@@ -521,6 +579,7 @@ static void line_write(const struct job *job, const struct history *history, int
     for (int j = 0; j < count; j++)
         text_add(out, " %d", numbers[j]);
     text_add(out, "\n");
+    sheets_line(job, numbers, count, out);
 }
 
 static int refused(const struct job *job, struct bytes *out)
@@ -551,9 +610,9 @@ static long take_number(const char **at, const char *end)
     return *at == from || (*at - from > 1 && *from == '0') ? -1 : value;
 }
 
-/* What is wrong with a line `E s t k n1 .. nk` or `C n k n1 .. nk` (without its end), or NULL. */
+/* What is wrong with a line `E s t k n1 .. nk` or `C n k n1 .. nk` (without its end), or NULL; `behind` gets the line that must follow it, or nothing. */
 static const char *reason_line_fault(const struct job *job, const struct history *history, int question, const char *at,
-                                     const char *end)
+                                     const char *end, struct bytes *behind)
 {
     static const char *const points[] = {NULL,
                                          "the numbers do not rise or do not stand before the question",
@@ -582,13 +641,17 @@ static const char *reason_line_fault(const struct job *job, const struct history
     }
     if (at != end)
         return "more on the line than the count says";
-    return points[reason_fault(job, history, question, numbers, (int)count)];
+    int fault = reason_fault(job, history, question, numbers, (int)count);
+    if (fault == 0)
+        sheets_line(job, numbers, (int)count, behind);
+    return points[fault];
 }
 
-static const char *line_fault(const struct job *job, const struct history *history, int i, const char *at, const char *end)
+static const char *line_fault(const struct job *job, const struct history *history, int i, const char *at, const char *end,
+                              struct bytes *behind)
 {
     if (i < job->questions && (job->question[i].explain || job->question[i].broken) && history->moment[i].follows)
-        return reason_line_fault(job, history, i, at, end - 1);
+        return reason_line_fault(job, history, i, at, end - 1, behind);
     struct bytes right = {0};
     if (i < job->questions)
         line_write(job, history, i, &right);
@@ -609,13 +672,23 @@ long text_judge(const struct job *job, const struct history *history, const char
         *what = same ? NULL : "another refusal is expected";
         return same ? 0 : 1;
     }
-    for (int i = 0; i <= job->questions; i++) {
+    long line = 1;
+    for (int i = 0; i <= job->questions; i++, line++) {
+        struct bytes behind = {0};
         const char *end = at == all ? NULL : memchr(at, '\n', (size_t)(all - at));
-        *what = end == NULL ? "the line is missing or has no end" : line_fault(job, history, i, at, end + 1);
+        *what = end == NULL ? "the line is missing or has no end" : line_fault(job, history, i, at, end + 1, &behind);
+        if (*what == NULL && behind.length > 0) {
+            line++;
+            at = end + 1;
+            end = at + behind.length - 1;
+            if ((size_t)(all - at) < behind.length || memcmp(at, behind.at, behind.length) != 0)
+                *what = "an H line with the sheets of the reason before it is expected";
+        }
+        free(behind.at);
         if (*what != NULL)
-            return i + 1;
+            return line;
         at = end + 1;
     }
     *what = at == all ? NULL : "more lines than expected";
-    return at == all ? 0 : job->questions + 2;
+    return at == all ? 0 : line;
 }

@@ -1,5 +1,5 @@
 /* What the answers to a job must be (document 01, "Tags, records, following", "Reasons", and document 02, No. 1, on tags that must
-   differ, and No. 6, on idle records), the judge of reports and texts, and answers of this program's own. Rests on job.h and closure.h. */
+   differ, No. 6, on idle records, and No. 9, on sheets), the judge of reports and texts, and answers of this program's own. Rests on job.h and closure.h. */
 #ifndef ANSWERS_H
 #define ANSWERS_H
 

@@ -6,7 +6,7 @@
 
 #include "../include/haltzurme.h"
 
-static uint8_t job[50000], room[200];
+static uint8_t job[60000], room[200];
 static uint16_t work[HALTZURME_WORK + 5];
 
 static void expect(int holds, const char *what) {
@@ -96,6 +96,11 @@ int main(int count, char **words) {
     soil();
     expect(haltzurme_run(job, length, room, 69, work, HALTZURME_WORK - 1, &place, &size) == HALTZURME_NARROW && soiled_room(0) && soiled_work(0), "32,767 numbers give 2, and nothing changes");
     expect(haltzurme_run(job, HALTZURME_LONGEST_JOB + 1, room, 69, work, HALTZURME_WORK, &place, &size) == HALTZURME_LONG && soiled_room(0) && soiled_work(0), "46,511 bytes give 1, and nothing changes");
+    job[0] = HALTZURME_SHEETED;
+    expect(haltzurme_run(job, HALTZURME_LONGEST_SHEETED + 1, room, 69, work, HALTZURME_WORK, &place, &size) == HALTZURME_LONG && soiled_room(0) && soiled_work(0), "54,511 bytes give 1 in edition 2, and nothing changes");
+    expect(haltzurme_run(job, HALTZURME_LONGEST_SHEETED, room, 69, work, HALTZURME_WORK, &place, &size) == HALTZURME_LENGTH && place == 0 && soiled_room(0) && zero_work(), "54,510 bytes do not, and a header of length 2 is refused by 5 there");
+    job[0] = HALTZURME_TAGS;
+    soil();
     expect(haltzurme_run(job, 0, room, 69, work, HALTZURME_WORK, &place, &size) == HALTZURME_SHORT && place == 0 && soiled_room(0) && zero_work(), "an empty job is refused by 3 at 0");
     size_t passes = 77;
     soil();

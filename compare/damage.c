@@ -150,7 +150,7 @@ static void later_last(struct maker *m, int question, int *numbers)
     const struct question *q = &m->job->question[question];
     int k = m->history->moment[question].first;
     other = *m->job;
-    other.record[k] = (struct record){0, 0, 0, 0};
+    other.record[k] = (struct record){0, 0, 0, 0, 0};
     other.question[0] = *q;
     other.questions = 1;
     history_of(&history, &other, m->history->way);
@@ -272,6 +272,63 @@ static void with_breach(struct maker *m, int question)
     }
 }
 
+/* The report with bytes put in at m->start, which is at fault there or behind them. */
+static void with_more(struct maker *m, const char *what, const unsigned char *bytes, size_t length, long place)
+{
+    struct bytes *out = &m->out.report;
+    out->length = 0;
+    bytes_add(out, m->report->at, m->start);
+    bytes_add(out, bytes, length);
+    bytes_add(out, m->report->at + m->start, m->report->length - m->start);
+    give(m, what, place, 1);
+}
+
+/* Document 02, No. 9: the 8A at m->start, behind a reason whose numbers are told. */
+static void with_sheets(struct maker *m, int question, const int *numbers, int length)
+{
+    const struct question *q = &m->job->question[question];
+    const unsigned char *field = m->report->at + m->start;
+    int right[MOST_RECORDS + 1], list[MOST_RECORDS + 2], count = two_bytes(field + 1) / 2;
+    for (int i = 0; i < count; i++)
+        right[i] = two_bytes(field + 3 + 2 * i);
+    struct bytes *out = &m->out.report;
+    out->length = 0;
+    bytes_add(out, m->report->at, m->start);
+    bytes_add(out, field + m->length, m->report->length - m->start - m->length);
+    give(m, "8A missing", (long)m->start, 1);
+    with_more(m, "8A twice", field, m->length, (long)(m->start + m->length));
+    with_field(m, "the sheets under another kind", KIND_EQUALS, right, count);
+    list[0] = 0;
+    memcpy(list + 1, right, (size_t)count * sizeof *list);
+    with_field(m, "0 among the sheets", KIND_SHEETS, list, count + 1);
+    memcpy(list, right, (size_t)count * sizeof *list);
+    list[count] = count > 0 ? right[count - 1] + 1 : 1;
+    with_field(m, "a sheet too many", KIND_SHEETS, list, count + 1);
+    list[count] = count > 0 ? right[count - 1] : 1;
+    with_field(m, "the last sheet twice", KIND_SHEETS, list, count + 1);
+    if (count > 0)
+        with_field(m, "the last sheet missing", KIND_SHEETS, right, count - 1);
+    if (count > 1) {
+        list[0] = right[1];
+        list[1] = right[0];
+        with_field(m, "sheets that do not rise", KIND_SHEETS, list, count);
+    }
+    for (int k = 1; k <= q->before; k++) { /* a sheet of a record that is not in the reason */
+        int there = m->job->record[k].sheet == 0, at = 0;
+        for (int i = 0; i < length; i++)
+            there |= m->job->record[numbers[i]].sheet == m->job->record[k].sheet;
+        if (there)
+            continue;
+        while (at < count && right[at] < m->job->record[k].sheet)
+            at++;
+        memcpy(list, right, (size_t)at * sizeof *list);
+        list[at] = m->job->record[k].sheet;
+        memcpy(list + at + 1, right + at, (size_t)(count - at) * sizeof *list);
+        with_field(m, "a sheet of another record", KIND_SHEETS, list, count + 1);
+        break;
+    }
+}
+
 static void totals(struct maker *m)
 {
     int classes = m->history->classes, idle = m->history->idle;
@@ -327,7 +384,19 @@ void each_damage(const struct job *job, const struct history *history, const str
                 not_following(&m, &job->question[i]);
             exchanged(&m);
         }
+        int kind = report->at[m.start], reasoned = kind == KIND_REASON || kind == KIND_BREACH;
+        int numbers[MOST_RECORDS + 1], count = 0;
+        for (int at = kind == KIND_BREACH ? 5 : 3; reasoned && at < (int)m.length; at += 2)
+            numbers[count++] = two_bytes(report->at + m.start + at);
         m.start += m.length;
+        if (job->edition == 2 && reasoned) {
+            m.length = field_length(report, m.start);
+            with_sheets(&m, i, numbers, count);
+            exchanged(&m);
+            m.start += m.length;
+        } else if (i < job->questions)
+            with_more(&m, job->edition == 2 ? "8A where there is no reason" : "8A in edition 1",
+                      (const unsigned char *)"\x8A\0\0", 3, (long)m.start);
     }
     m.out.report.length = 0; /* reasons found in another order are right as well */
     report_write(job, history, seed | 1, &m.out.report);

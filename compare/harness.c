@@ -1,7 +1,7 @@
-/* The second program for plain harness sheets, from documents 01 and 02 (No. 8) alone: the reason is found by trying all lists of records, the short ones first and the
+/* The second program for plain harness sheets, from documents 01 and 02 (No. 8 and 9) alone: the reason is found by trying all lists of records, the short ones first and the
    equally short ones in the order of their first differing number. It shares nothing with the tool; leaders, pairs and totals are those of answers.h.
 
-     harness make SEED          a small random job: records of kind 01, questions of every kind, at times an 02 or damage
+     harness make SEED          a small random job of either edition: records of kind 01, questions of every kind, at times an 02 or damage
      harness lines JOB          the lines that tagharness must write
      harness report JOB         the report that it must write; nothing if the job is refused
      harness verdict JOB REPORT `number place`, as its recheck must answer
@@ -20,7 +20,7 @@ enum { MOST_TRIED = 20 }; /* records of a job whose lists are all tried */
 static struct job job;
 static struct history history;
 static struct bytes input, given, own;
-static size_t field_at[MOST_QUESTIONS + 2]; /* where each field of the own report begins */
+static size_t field_at[2 * MOST_QUESTIONS + 2]; /* where each field of the own report begins */
 static int fields;
 
 static void read_file(const char *name, struct bytes *out)
@@ -129,6 +129,33 @@ static void write_list(int lines, const char *letter, int kind, int lead, int s,
         number_add(&own, list[i]);
 }
 
+/* Edition 2: "the distinct sheets of that reason, rising, without 0". */
+static void write_sheets(int lines, const int *list, int count)
+{
+    int sheet[MOST_TRIED + 1], sheets = 0;
+    if (job.edition != 2)
+        return;
+    for (int h = 1; h <= MOST_SHEET; h++) {
+        int used = 0;
+        for (int i = 0; i < count; i++)
+            used |= job.record[list[i]].sheet == h;
+        if (used)
+            sheet[sheets++] = h;
+    }
+    if (lines)
+        printf("H %d", sheets);
+    else
+        front(KIND_SHEETS, 2 * sheets);
+    for (int i = 0; i < sheets; i++) {
+        if (lines)
+            printf(" %d", sheet[i]);
+        else
+            number_add(&own, sheet[i]);
+    }
+    if (lines)
+        printf("\n");
+}
+
 static void answer(int lines)
 {
     int list[MOST_TRIED + 1];
@@ -138,9 +165,10 @@ static void answer(int lines)
         int s = q->s, t = q->t;
         if (q->explain || (q->broken && m->pair > 0)) {
             int count = q->broken ? reason(list, q->before, m->s, m->t) : reason(list, q->before, s, t);
-            if (count >= 0)
+            if (count >= 0) {
                 write_list(lines, q->broken ? "C" : "E", q->broken ? KIND_BREACH : KIND_REASON, q->broken ? m->pair : 0, s, t, list, count);
-            else if (lines)
+                write_sheets(lines, list, count);
+            } else if (lines)
                 printf("N %d %d\n", s, t);
             else
                 front(KIND_NOT, 0);
@@ -219,10 +247,14 @@ static void put_field(int kind, int numbers, const int *number)
 
 static void make(uint64_t seed)
 {
-    int tags = 1 + random_below(&seed, 7), records = 0, two[3];
+    int tags = 1 + random_below(&seed, 7), records = 0, two[4];
     two[0] = tags;
     two[1] = random_below(&seed, tags + 1);
-    put_field(KIND_TAGS, 1 + random_below(&seed, 2), two);
+    int sheeted = random_below(&seed, 2);
+    if (sheeted)
+        put_field(KIND_SHEETED, 2, two);
+    else
+        put_field(KIND_TAGS, 1 + random_below(&seed, 2), two);
     int wrong = random_below(&seed, 12);
     for (int left = 4 + random_below(&seed, 24); left > 0; left--) {
         for (int i = 0; i < 3; i++)
@@ -231,7 +263,8 @@ static void make(uint64_t seed)
         if (wrong == 0 && random_below(&seed, 12) == 0)
             put_field(KIND_APPLY, random_below(&seed, 4), two);
         else if (kind < 5 && records < 13) {
-            put_field(KIND_EQUAL, 2, two);
+            two[2] = random_below(&seed, 5) * (random_below(&seed, 3) + 1);
+            put_field(KIND_EQUAL, 2 + sheeted, two);
             records++;
         } else if (kind == 5)
             put_field(KIND_ASK, 2, two);

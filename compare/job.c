@@ -1,4 +1,4 @@
-/* Reading a job front to back, one field at a time, in document 01's order of checks; document 02, No. 1 for kinds 05 and 06, No. 2 for the tags. Rests on job.h only. */
+/* Reading a job front to back, one field at a time, in document 01's order of checks; document 02, No. 1 for kinds 05 and 06, No. 2 for the tags, No. 9 for edition 2. Rests on job.h only. */
 #include "job.h"
 
 int two_bytes(const unsigned char *at)
@@ -6,6 +6,7 @@ int two_bytes(const unsigned char *at)
     return at[0] * 256 + at[1];
 }
 
+/* The bytes of a body of edition 1; in edition 2 a record has two more, its sheet. */
 static int body_length(int kind)
 {
     switch (kind) {
@@ -16,6 +17,7 @@ static int body_length(int kind)
     case KIND_EXPLAIN:
     case KIND_DIFFER:
     case KIND_WHY:
+    case KIND_SHEETED:
         return 4;
     case KIND_APPLY:
         return 6;
@@ -29,7 +31,8 @@ static int body_length(int kind)
 
 static int in_its_place(int kind, int first)
 {
-    return first ? kind == KIND_TAGS : kind != KIND_TAGS && body_length(kind) >= 0;
+    int header = kind == KIND_TAGS || kind == KIND_SHEETED;
+    return first ? header : !header && body_length(kind) >= 0;
 }
 
 static int too_many(const struct job *job, int kind)
@@ -50,10 +53,15 @@ static int too_many(const struct job *job, int kind)
     }
 }
 
-/* Document 02, No. 3: a header has N, or N and U. */
-static int length_fits(int kind, int length)
+static int has_sheet(const struct job *job, int kind)
 {
-    return length == body_length(kind) || (kind == KIND_TAGS && length == 4);
+    return job->edition == 2 && (kind == KIND_EQUAL || kind == KIND_APPLY);
+}
+
+/* Document 02, No. 3: a header has N, or N and U; No. 9: that of edition 2 has both. */
+static int length_fits(const struct job *job, int kind, int length)
+{
+    return length == body_length(kind) + 2 * has_sheet(job, kind) || (kind == KIND_TAGS && length == 4);
 }
 
 static int header_in_range(const unsigned char *body, int length)
@@ -81,19 +89,24 @@ static int field_refusal(const struct job *job, const unsigned char *bytes, size
     if (!in_its_place(kind, at == 0))
         return 4;
     int stated = two_bytes(bytes + at + 1);
-    if (!length_fits(kind, stated))
+    if (!length_fits(job, kind, stated))
         return 5;
     if (length - at - 3 < (size_t)stated)
         return 3;
     if (too_many(job, kind))
         return 7;
-    if (kind == KIND_TAGS)
+    if (kind == KIND_TAGS || kind == KIND_SHEETED)
         return header_in_range(body, stated) ? 0 : 6;
     int wrong = wrong_tag(job, kind, body);
-    if (wrong < 0)
-        return 0;
-    *place = at + 3 + 2 * (size_t)wrong;
-    return 11 + wrong;
+    if (wrong >= 0) {
+        *place = at + 3 + 2 * (size_t)wrong;
+        return 11 + wrong;
+    }
+    if (has_sheet(job, kind) && two_bytes(body + stated - 2) > MOST_SHEET) {
+        *place = at + 3 + (size_t)stated - 2;
+        return 17;
+    }
+    return 0;
 }
 
 static void take_record(struct job *job, int kind, const unsigned char *body)
@@ -103,6 +116,7 @@ static void take_record(struct job *job, int kind, const unsigned char *body)
     r->a = two_bytes(body);
     r->b = two_bytes(body + 2);
     r->c = r->apply ? two_bytes(body + 4) : 0;
+    r->sheet = job->edition == 2 ? two_bytes(body + body_length(kind)) : 0;
 }
 
 static void take_pair(struct job *job, const unsigned char *body)
@@ -124,6 +138,8 @@ static void take_question(struct job *job, int kind, const unsigned char *body)
     q->pairs = job->pairs;
     long bound = 2L * (job->tags - 1);
     long most = job->records < bound ? job->records : bound;
+    if (job->edition == 2 && (q->broken || q->explain))
+        job->needed += 3 + 2 * most;
     job->needed += q->broken ? 5 + 2 * most : q->why ? 3 + 2L * job->tags : q->explain ? 3 + 2 * most : 7;
 }
 
@@ -131,13 +147,14 @@ void job_read(struct job *job, const unsigned char *bytes, size_t length)
 {
     job->number = 0;
     job->place = 0;
+    job->edition = length > 0 && bytes[0] == KIND_SHEETED ? 2 : 1;
     job->tags = 0;
     job->units = 0;
     job->records = 0;
     job->pairs = 0;
     job->questions = 0;
     job->needed = 7;
-    if (length > LONGEST_JOB) {
+    if (length > (job->edition == 2 ? LONGEST_SHEETED : LONGEST_JOB)) {
         job->number = 1;
         return;
     }
@@ -153,7 +170,7 @@ void job_read(struct job *job, const unsigned char *bytes, size_t length)
         const unsigned char *body = bytes + at + 3;
         int stated = two_bytes(bytes + at + 1);
         at += 3 + (size_t)stated;
-        if (kind == KIND_TAGS) {
+        if (kind == KIND_TAGS || kind == KIND_SHEETED) {
             job->tags = two_bytes(body);
             job->units = stated == 4 ? two_bytes(body + 2) : job->tags;
         } else if (kind == KIND_EQUAL || kind == KIND_APPLY)

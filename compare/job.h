@@ -1,4 +1,4 @@
-/* A job read by document 01, sections "The job and the report" and "What is lent, and each refusal", and by document 02, No. 1 to 3 and 7.
+/* A job read by document 01, sections "The job and the report" and "What is lent, and each refusal", and by document 02, No. 1 to 3, 7 and 9.
    Written from those documents alone; rests on nothing else here. */
 #ifndef JOB_H
 #define JOB_H
@@ -7,6 +7,8 @@
 
 enum {
     LONGEST_JOB = 46510,
+    LONGEST_SHEETED = 54510, /* of edition 2: its first byte is 11 */
+    MOST_SHEET = 9999,
     MOST_TAGS = 1000,
     MOST_RECORDS = 4000,
     MOST_PAIRS = 500, /* of kind 05 */
@@ -18,6 +20,7 @@ enum {
 
 enum {
     KIND_TAGS = 0x10,
+    KIND_SHEETED = 0x11, /* the header of edition 2 */
     KIND_EQUAL = 0x01,
     KIND_APPLY = 0x02,
     KIND_ASK = 0x03,
@@ -33,6 +36,7 @@ enum {
     KIND_WHOLE = 0x87,
     KIND_APART = 0x88, /* the leader of every tag */
     KIND_EQUALS = 0x89,
+    KIND_SHEETS = 0x8A, /* the sheets of the reason before it */
     KIND_TOTALS = 0x8F
 };
 
@@ -40,6 +44,7 @@ enum {
 struct record {
     int apply;
     int a, b, c;
+    int sheet; /* 0 for none */
 };
 
 /* Two tags that must differ. */
@@ -61,6 +66,7 @@ struct question {
 struct job {
     int number;
     long place;
+    int edition; /* 1 or 2 */
     int tags;
     int units; /* tags from here up are units (document 02, No. 3); as many as `tags` where the header does not say */
     int records;
@@ -72,7 +78,7 @@ struct job {
     struct question question[MOST_QUESTIONS];
 };
 
-/* Reads a job: refusals 1, 3 to 8 and 11 to 13, or 0. The refusals 2 and 9 depend on what is lent: see below. */
+/* Reads a job: refusals 1, 3 to 8, 11 to 13 and 17, or 0. The refusals 2 and 9 depend on what is lent: see below. */
 void job_read(struct job *job, const unsigned char *bytes, size_t length);
 
 /* The number that a run gives with these loans; its place is the job's place, or 0. */

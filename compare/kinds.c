@@ -91,12 +91,12 @@ struct plan {
 
 static void plan_equal(struct plan *plan, int a, int b)
 {
-    plan->record[plan->count++] = (struct record){0, a, b, 0};
+    plan->record[plan->count++] = (struct record){0, a, b, 0, 0};
 }
 
 static void plan_apply(struct plan *plan, int a, int b, int c)
 {
-    plan->record[plan->count++] = (struct record){1, a, b, c};
+    plan->record[plan->count++] = (struct record){1, a, b, c, 0};
 }
 
 static void plan_reverse(struct plan *plan)
@@ -197,11 +197,74 @@ static void differing_job(struct bytes *out)
     end(out);
 }
 
-enum { JOBS = 4 };
-
-static void four_jobs(struct bytes *out, int which)
+/* Document 02, No. 9: the job in edition 2, with the sheets that `sheet` tells. The job is one that is not refused. */
+static void to_sheets(struct bytes *out, int (*sheet)(uint64_t *state, int record), uint64_t *state)
 {
-    if (which == 3)
+    struct bytes old = {0};
+    int record = 0;
+    bytes_add(&old, out->at, out->length);
+    out->length = 0;
+    for (size_t at = 0; at < old.length;) {
+        int kind = old.at[at], length = two_bytes(old.at + at + 1);
+        const unsigned char *body = old.at + at + 3;
+        if (kind == KIND_TAGS)
+            field(out, KIND_SHEETED, 2, two_bytes(body), two_bytes(body + length - 2), 0);
+        else {
+            int sheeted = kind == KIND_EQUAL || kind == KIND_APPLY;
+            byte_add(out, kind);
+            number_add(out, length + 2 * sheeted);
+            bytes_add(out, body, (size_t)length);
+            if (sheeted)
+                number_add(out, sheet(state, ++record));
+        }
+        at += 3 + (size_t)length;
+    }
+    free(old.at);
+}
+
+/* Sheets: few, so that many records share one, none, and some far up. */
+static int some_sheet(uint64_t *state, int record)
+{
+    static const int high[] = {9999, 9998, 256, 255, 1000};
+    (void)record;
+    int which = random_below(state, 8);
+    return which == 0 ? 0 : which == 1 ? high[random_below(state, 5)] : 1 + random_below(state, 5);
+}
+
+static int any_sheet(uint64_t *state, int record)
+{
+    (void)record;
+    return random_below(state, MOST_SHEET + 1);
+}
+
+static int own_sheet(uint64_t *state, int record)
+{
+    (void)state;
+    return MOST_SHEET + 1 - record;
+}
+
+static void sheets_job(struct bytes *out)
+{
+    tags(out, 4);
+    differ(out, 0, 1);
+    apply(out, 0, 1, 2);
+    apply(out, 1, 0, 3);
+    equal(out, 0, 1);
+    explain(out, 2, 3);
+    explain(out, 0, 3);
+    broken(out);
+    ask(out, 0, 2);
+    end(out);
+    to_sheets(out, own_sheet, NULL);
+}
+
+enum { JOBS = 5 };
+
+static void small_job(struct bytes *out, int which)
+{
+    if (which == 4)
+        sheets_job(out);
+    else if (which == 3)
         differing_job(out);
     else if (which == 0)
         inspectors_job(out);
@@ -279,11 +342,24 @@ static void make_differ(struct bytes *out, int size, uint64_t seed, long index)
     end(out);
 }
 
+/* Small jobs of edition 2. */
+static void make_sheets(struct bytes *out, int size, uint64_t seed, long index)
+{
+    uint64_t state = state_of(seed ^ 0x5EE75u, index);
+    if (index % 2)
+        make_differ(out, size, seed, index);
+    else
+        make_small(out, size, seed, index);
+    to_sheets(out, some_sheet, &state);
+}
+
 /* A small job with one fault of some kind in it. */
 static void make_faulty(struct bytes *out, int size, uint64_t seed, long index)
 {
     uint64_t state = state_of(seed ^ 0xFA017u, index);
-    if (index % 2)
+    if (index % 4 == 3)
+        make_sheets(out, size, seed, index);
+    else if (index % 2)
         make_differ(out, size, seed, index);
     else
         make_small(out, size, seed, index);
@@ -329,17 +405,17 @@ static long all_lengths(void)
 {
     struct bytes all = {0};
     for (int which = 0; which < JOBS; which++)
-        four_jobs(&all, which);
+        small_job(&all, which);
     free(all.at);
     return (long)all.length;
 }
 
-/* Which of the four jobs holds place `place` when they stand one behind the other; the job is put in `out`. */
-static long one_of_four(struct bytes *out, long place)
+/* Which of the small jobs holds place `place` when they stand one behind the other; the job is put in `out`. */
+static long one_of_all(struct bytes *out, long place)
 {
     for (int which = 0;; which++) {
         out->length = 0;
-        four_jobs(out, which);
+        small_job(out, which);
         if (place < (long)out->length)
             return place;
         place -= (long)out->length;
@@ -356,7 +432,7 @@ static void make_cut(struct bytes *out, int size, uint64_t seed, long index)
 {
     (void)size;
     (void)seed;
-    long place = one_of_four(out, index);
+    long place = one_of_all(out, index);
     out->length = (size_t)place;
 }
 
@@ -370,7 +446,7 @@ static void make_byte(struct bytes *out, int size, uint64_t seed, long index)
 {
     (void)size;
     (void)seed;
-    long place = one_of_four(out, index / 255);
+    long place = one_of_all(out, index / 255);
     out->at[place] = (unsigned char)(out->at[place] + 1 + index % 255);
 }
 
@@ -577,7 +653,8 @@ static void limit_room(struct bytes *out, int which)
 }
 
 enum { LIMIT_TAGS = 1, LIMIT_TAG = LIMIT_TAGS + 8, LIMIT_WRONG = LIMIT_TAG + 78, LIMIT_COUNTS = LIMIT_WRONG + 96, LIMIT_SHAPES = LIMIT_COUNTS + 28,
-       LIMIT_ROOM = LIMIT_SHAPES + 60, LIMIT_BEHIND = LIMIT_ROOM + 2, LIMIT_UNITS = LIMIT_BEHIND + 2, LIMIT_WHYS = LIMIT_UNITS + 25, LIMITS = LIMIT_WHYS + 4 };
+       LIMIT_ROOM = LIMIT_SHAPES + 60, LIMIT_BEHIND = LIMIT_ROOM + 2, LIMIT_UNITS = LIMIT_BEHIND + 2, LIMIT_WHYS = LIMIT_UNITS + 25, LIMIT_SHEETS = LIMIT_WHYS + 4,
+       LIMITS = LIMIT_SHEETS + 16 };
 
 /* 29 whys at N = 1,000 take 58,087 bytes; with 1,906 more, of asks and explains, and the totals the room is full. A 30th does not fit. And N = 1. */
 static void limit_whys(struct bytes *out, int which)
@@ -592,6 +669,58 @@ static void limit_whys(struct bytes *out, int which)
         ask(out, i, 999 - i);
     if (which == 2)
         why(out, 5, 5);
+    end(out);
+}
+
+/* Document 02, No. 9: a sheet and a tag on both sides of their limits, the longest job, headers twice, and the needed room. */
+static void limit_sheets(struct bytes *out, int which)
+{
+    static const int sheet[] = {0, 1, 9999, 10000, 65535};
+    field(out, KIND_SHEETED, 2, 2, which == 7 ? 3 : 1, 0);
+    if (which < 5) { /* in a 01 and in a 02 */
+        field(out, KIND_EQUAL, 3, 0, 1, which % 2 == 0 ? sheet[which] : 7);
+        byte_add(out, KIND_APPLY);
+        number_add(out, 8);
+        for (int i = 0; i < 3; i++)
+            number_add(out, i % 2);
+        number_add(out, sheet[which]);
+        explain(out, 0, 1);
+    }
+    if (which == 5 || which == 6) /* 11 before 17, and 12 */
+        field(out, KIND_EQUAL, 3, which == 5 ? 2 : 0, 2, 10000);
+    if (which == 8 || which == 9) /* a second header of either kind */
+        field(out, which == 8 ? KIND_TAGS : KIND_SHEETED, 2, 2, 1, 0);
+    if (which == 10) /* a record of edition 1 */
+        equal(out, 0, 1);
+    if (which == 11 || which == 12) { /* the longest job, and a byte more */
+        for (int i = 0; i < 4000; i++) {
+            byte_add(out, KIND_APPLY);
+            number_add(out, 8);
+            for (int j = 0; j < 3; j++)
+                number_add(out, 0);
+            number_add(out, i);
+        }
+        repeat_pairs(out, 500);
+        repeat_questions(out, 1000, 0);
+        end(out);
+        if (which == 12)
+            byte_add(out, 0);
+        return;
+    }
+    if (which == 13 || which == 14) /* 1,000 explains and 06 on two tags after a record: 60 of them with 10 and 12 bytes each */
+        for (int i = 0; i < 1000; i++) {
+            if (i == 1)
+                field(out, KIND_EQUAL, 3, 0, 1, 12);
+            if (which == 13 ? i % 3 == 0 : i % 2 == 0)
+                broken(out);
+            else
+                explain(out, 0, 1);
+        }
+    if (which == 15) { /* the 4,001st record with a sheet too high: 7 before 17 */
+        for (int i = 0; i < 4000; i++)
+            field(out, KIND_EQUAL, 3, 0, 1, i);
+        field(out, KIND_EQUAL, 3, 0, 1, 10000);
+    }
     end(out);
 }
 
@@ -620,6 +749,8 @@ static void make_limit(struct bytes *out, int size, uint64_t seed, long index)
         limit_shape(out, which - LIMIT_SHAPES);
     else if (which < LIMIT_BEHIND)
         limit_room(out, which - LIMIT_ROOM);
+    else if (which >= LIMIT_SHEETS)
+        limit_sheets(out, which - LIMIT_SHEETS);
     else if (which >= LIMIT_WHYS)
         limit_whys(out, which - LIMIT_WHYS);
     else if (which >= LIMIT_UNITS)
@@ -741,6 +872,13 @@ static void make_bound(struct bytes *out, int n, uint64_t seed, long index)
     lay(out, n, &plan, 0, n - 1, &state);
 }
 
+/* The same in edition 2, each record on a sheet of its own, the later on the lower: as many sheets as a reason can have, all out of order. */
+static void make_bound_sheets(struct bytes *out, int n, uint64_t seed, long index)
+{
+    make_bound(out, n, seed, index);
+    to_sheets(out, own_sheet, NULL);
+}
+
 /* The same over some of the tags, while all others stay alone: with C classes 2(N-C) records, and every one of them is needed. */
 static void make_bound_apart(struct bytes *out, int n, uint64_t seed, long index)
 {
@@ -822,6 +960,13 @@ static void make_dense(struct bytes *out, int n, uint64_t seed, long index)
             ask(out, random_below(&state, n), random_below(&state, n));
     }
     end(out);
+}
+
+static void make_dense_sheets(struct bytes *out, int n, uint64_t seed, long index)
+{
+    uint64_t state = state_of(seed ^ 0x5EE75u, index);
+    make_dense(out, n, seed, index);
+    to_sheets(out, any_sheet, &state);
 }
 
 /* Some records, and between them as many whys as 60,000 bytes of room allow. */
@@ -912,10 +1057,11 @@ static void make_pairs(struct bytes *out, int n, uint64_t seed, long index)
 const struct kind kinds[] = {
     {"small", "random small jobs, questions anywhere", 12, make_small, NULL},
     {"differ", "the same with pairs that must differ and 06", 12, make_differ, NULL},
+    {"sheets", "the same in edition 2", 12, make_sheets, NULL},
     {"faulty", "small jobs with one fault", 12, make_faulty, NULL},
     {"garbage", "random bytes, mostly meaningful ones", 12, make_garbage, NULL},
-    {"cut", "every truncation of three small jobs", 0, make_cut, cut_cases},
-    {"byte", "every single byte changed in three small jobs", 0, make_byte, byte_cases},
+    {"cut", "every truncation of five small jobs", 0, make_cut, cut_cases},
+    {"byte", "every single byte changed in five small jobs", 0, make_byte, byte_cases},
     {"limit", "both sides of every limit", 0, make_limit, limit_cases},
     {"chain", "0=1, 1=2, ..", 1000, make_chain, NULL},
     {"chain-back", "the same from the last to the first", 1000, make_chain_back, NULL},
@@ -927,11 +1073,13 @@ const struct kind kinds[] = {
     {"fibonacci", "two towers, each tag resting on the two below", 1000, make_fibonacci, NULL},
     {"bound", "a reason at the bound: f(i+1,i)=i, f(i+1,i)=i+1", 1000, make_bound, NULL},
     {"bound-apart", "at the bound with classes left: the same over some of the tags", 1000, make_bound_apart, NULL},
+    {"bound-sheets", "at the bound, each record on a sheet of its own", 1000, make_bound_sheets, NULL},
     {"bound-deep", "at the bound, each join resting on all before", 1000, make_bound_deep, NULL},
     {"bound-back", "the same from the last to the first", 1000, make_bound_back, NULL},
     {"redundant", "each link of a chain said three ways, shuffled", 1000, make_redundant, NULL},
     {"shapes", "many applications of one shape, shuffled", 1000, make_shapes, NULL},
     {"dense", "4N random records, questions between", 1000, make_dense, NULL},
+    {"dense-sheets", "the same in edition 2, on any sheets", 700, make_dense_sheets, NULL},
     {"questions", "4,000 random records, 1,000 questions", 1000, make_questions, NULL},
     {"explains", "4,000 records over few tags, hundreds of explains", 25, make_explains, NULL},
     {"whys", "random records, whys between them up to 60,000 bytes of room", 1000, make_whys, NULL},

@@ -352,7 +352,7 @@ static int list_fault(const struct record *records, int count, int tags, int s, 
 
 static void named_lists(void)
 {
-    const struct record spare[] = {{0, 0, 1, 0}, {0, 2, 3, 0}, {0, 1, 2, 0}};
+    const struct record spare[] = {{0, 0, 1, 0, 0}, {0, 2, 3, 0, 0}, {0, 1, 2, 0, 0}};
     expect(LIST_FAULT(spare, 4, 0, 2, 1, 3) == 0, "0=1, 2=3, 1=2: the list 1 3");
     expect(LIST_FAULT(spare, 4, 0, 2, 1, 2, 3) == POINT_SPARE, "0=1, 2=3, 1=2: the list 1 2 3");
     expect(LIST_FAULT(spare, 4, 0, 2, 3) == POINT_ENTAILS, "0=1, 2=3, 1=2: the list 3");
@@ -362,10 +362,10 @@ static void named_lists(void)
     expect(LIST_FAULT(spare, 4, 0, 2, 1, 3, 4) == POINT_RISING, "0=1, 2=3, 1=2: the list 1 3 4");
     expect(LIST_FAULT(spare, 4, 0, 0, 1) == POINT_LAST, "0 and 0: the list 1");
     expect(list_fault(spare, 3, 4, 0, 0, NULL, 0) == 0, "0 and 0: the empty list");
-    const struct record twice[] = {{0, 0, 1, 0}, {0, 1, 2, 0}, {0, 0, 2, 0}};
+    const struct record twice[] = {{0, 0, 1, 0, 0}, {0, 1, 2, 0, 0}, {0, 0, 2, 0, 0}};
     expect(LIST_FAULT(twice, 3, 0, 2, 1, 2) == 0, "0=1, 1=2, 0=2: the list 1 2");
     expect(LIST_FAULT(twice, 3, 0, 2, 3) == POINT_LAST, "0=1, 1=2, 0=2: the list 3");
-    const struct record both[] = {{1, 0, 0, 1}, {1, 1, 1, 2}, {0, 0, 1, 0}};
+    const struct record both[] = {{1, 0, 0, 1, 0}, {1, 1, 1, 2, 0}, {0, 0, 1, 0, 0}};
     expect(LIST_FAULT(both, 3, 0, 2, 1, 2, 3) == 0, "f(0,0)=1, f(1,1)=2, 0=1: the list 1 2 3");
     expect(LIST_FAULT(both, 3, 0, 2, 1, 2) == POINT_ENTAILS, "f(0,0)=1, f(1,1)=2, 0=1: the list 1 2");
 }

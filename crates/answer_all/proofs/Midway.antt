@@ -1,19 +1,19 @@
 -- From one item of the job to the next: what stands in the room goes on making a sound report of whatever is one of the items left.
 -- A note changes nothing but the moment, and a question adds its field.
 -- Assumes nothing.
-use Prim.Native.Nat.{ℕ, _+_, _≤_, _<_}
+use Prim.Native.Nat.{ℕ, suc, _+_, _≤_, _<_}
 use native.Mathlib.Omega.{arith}
 use mathlib.Core.Path.{_≡_, refl, sym, _∙_, ap}
 use mathlib.Core.Bool.{true, false}
 use mathlib.Core.List.{List, [], _∷_, _++_, append-assoc}
 use lib.ListN.{length, length-append}
-use Rattle.job_field.specs.Items.{Head, Note, standsFor, pairsIn, Moment, start, after, Question, roomOf, Item, noted, posed, recordsOf, pairsOf, neededRoom}
+use Rattle.job_field.specs.Items.{Head, Note, standsFor, pairsIn, Moment, start, after, Question, explain, roomOf, Item, noted, posed, recordsOf, pairsOf, neededRoom}
 use Rattle.job_field.specs.Reading.{Field, bad, header, item, end, behindAt, fieldAt, headIn, itemsIn, matterIn}
 use Rattle.job_field.specs.Standing.{Met}
 use Rattle.job_field.proofs.Items.{stands-few}
 use Rattle.job_field.proofs.Standing.{stands-item, stands-end, stands-first, stands-last, stands-within}
-use Rattle.table.specs.Map.{recordsIn, Within}
-use Rattle.table.proofs.Frame.{within-refl, within-trans, within-wider}
+use Rattle.table.specs.Map.{recAt, recordsIn, Within}
+use Rattle.table.proofs.Frame.{within-refl, within-trans, within-wider, length-gather}
 use Rattle.table.specs.Places.{LIST, behindJoins, fromTo}
 use Rattle.report.specs.Report.{Answers, passed, answered, Known, afterRecords, laid}
 use Rattle.report.proofs.Fits.{answers-fits}
@@ -24,6 +24,7 @@ use Rattle.pairs.specs.Marks.{Marking, Noted}
 use Rattle.pairs.specs.Breaking.{Breaking, Guarded}
 use Rattle.pairs.proofs.Breaking.{guarded-begin, guarded-kept, guarded-note, guarded-room, breaking-here}
 use Rattle.answer_ask.specs.Facing.{Facing, Answered, Replied}
+use Rattle.answer_explain.specs.Explaining.{Explaining, Explained}
 use Rattle.answer_all.specs.declared.Spot.{Spot}
 use Rattle.answer_all.specs.Asking.{isEnd, Asked, Asking, Meeting, note-met, question-met, Onward, onward, Stepped, passes, answers, Midway, Told}
 
@@ -47,6 +48,20 @@ answered-replied {job} B a = record {
   reached = a .reached;
   kept = a .kept;
 }
+
+-- So with an explain, for which the job was looked at.
+module _ {job w room : List ℕ} {before differs out s t : ℕ} where
+  pub asked-explaining : {H : Head} {len joins : ℕ} → Asked job w room H len joins before differs out (explain s t) → Explaining job w room H len joins before out s t
+  asked-explaining {H} {len} a = record {
+    stands = a .breaking .stands;
+    head = a .breaking .head;
+    few = sym (length-gather (λ k. recAt w (suc k)) len) ∙ ap length (a .breaking .records);
+    records = a .breaking .records;
+    facing = a .facing;
+  }
+
+  pub explained-replied : {w′ room′ : List ℕ} {end : ℕ} → Explained job w room before out s t w′ room′ end → Replied job w room before differs out (explain s t) w′ room′ end
+  explained-replied x = record { field = x .field; right = λ b e d. x .right b e; front = x .front; reached = x .reached; kept = x .kept }
 
 -- Every step goes behind the field.
 stepped-to : {job w room : List ℕ} {len next : ℕ} {p : Spot} {i : Item} {p′ : Spot} {w′ room′ : List ℕ} → Stepped job w room len next p i p′ w′ room′ → p′ .at ≡ next

@@ -2,13 +2,15 @@
 -- Assumes nothing.
 use Prim.Native.Nat.{ℕ, suc, _+_, _-_, _≤_}
 use native.Mathlib.Omega.{arith}
-use mathlib.Core.Path.{_≡_, refl, _∙_, ap}
+use mathlib.Core.Path.{_≡_, refl, sym, _∙_, ap}
+use mathlib.Core.Bool.{Bool}
 use mathlib.Core.List.{List, [], _∷_, _++_}
 use lib.ListN.{length, length-append}
 use Rattle.meaning.proofs.Laws.{idles-most}
 use Rattle.meaning.specs.Limits.{mostRecords}
 use Rattle.job_field.specs.Items.{Head, recordsOf}
-use Rattle.job_field.specs.Reading.{fieldAt, unitsOf, headIn, itemsIn}
+use Rattle.job_field.specs.Reading.{fieldAt, unitsOf, sheetedIn, headIn, itemsIn}
+use Rattle.job_field.proofs.Standing.{edition-first}
 use Rattle.table.specs.Map.{recAt, recordsIn}
 use Rattle.table.proofs.Frame.{length-gather, within-trans, within-wider}
 use Rattle.table.proofs.Kept.{records-same}
@@ -23,12 +25,15 @@ module _ {job room w : List ℕ} {N len : ℕ} (r : Ready job room w N len) {w�
   records-after : recordsIn len w₁ ≡ recordsOf (itemsIn job)
   records-after = records-same (c .kept) len ∙ r .records
 
-  -- U is read off the first field.
-  head-read : (u : ℕ) → u ≡ unitsOf (fieldAt job 0) → headIn job ≡ record { size = N; units = u }
-  head-read u e = let z : u ≡ headIn job .units = e ∙ ap unitsOf (r .stands .first) in rw (z, ← r .size) refl
+  -- U is read off the first field, and the edition off the first byte.
+  head-read : (u : ℕ) (v : Bool) → u ≡ unitsOf (fieldAt job 0) → v ≡ sheetedIn job → headIn job ≡ record { size = N; units = u; sheeted = v }
+  head-read u v e f =
+      let z : u ≡ headIn job .units = e ∙ ap unitsOf (r .stands .first) in
+      let y : v ≡ headIn job .sheeted = f ∙ sym (edition-first job (headIn job) (r .stands .first)) in
+      rw (z, y, ← r .size) refl
 
-  pub asking-after : (u : ℕ) → u ≡ unitsOf (fieldAt job 0) → Asking job w₁ (record { size = N; units = u }) len joins
-  asking-after u e = record { stands = r .stands; head = head-read u e; short = r .short; few = r .few; records = records-after; past = c .past }
+  pub asking-after : (u : ℕ) (v : Bool) → u ≡ unitsOf (fieldAt job 0) → v ≡ sheetedIn job → Asking job w₁ (record { size = N; units = u; sheeted = v }) len joins
+  asking-after u v e f = record { stands = r .stands; head = head-read u v e f; short = r .short; few = r .few; records = records-after; past = c .past }
 
   pub idle-few : idle ≤ mostRecords
   idle-few = omega (arith, idles-most (c .idles), length-gather (λ k. recAt w₁ (suc k)) len, r .loaded .most)

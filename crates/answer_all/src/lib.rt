@@ -20,6 +20,7 @@ use job_field::Query;
 use job_field::behind;
 use job_field::pairs_in;
 use job_field::read;
+use job_field::sheeted;
 use job_field::stands_for;
 use job_field::units;
 use job_field::wide;
@@ -51,7 +52,7 @@ fn answer_question(
 {
     match q {
         Query::Ask(s, t) => answer_ask(room, work, c, before, out, s, t),
-        Query::Explain(s, t) => answer_explain(room, work, c, before, out, s, t),
+        Query::Explain(s, t) => answer_explain(job, room, work, c, before, out, s, t),
         Query::Broken => answer_broken(job, room, work, c, before, differs, out),
         Query::Why(s, t) => answer_why(room, work, c, before, out, s, t),
     }
@@ -93,7 +94,7 @@ fn answer_field(
             }
         }
         Field::Bad(_) => p,
-        Field::Header(_, _) => p,
+        Field::Header(_, _, _) => p,
         Field::End => p,
     }
 }
@@ -106,7 +107,7 @@ fn is_end(field: Field) -> bool
         Field::Noted(_) => false,
         Field::Posed(_) => false,
         Field::Bad(_) => false,
-        Field::Header(_, _) => false,
+        Field::Header(_, _, _) => false,
         Field::End => true,
     }
 }
@@ -139,6 +140,7 @@ pub fn respond(job: &[u8], room: &mut [u8], work: &mut [u16], size: usize, len: 
     ensures { λ n. ⌜ Responded (now (job .entry)) (now (room .entry)) (now (work .entry)) (now (room .exit)) (now (work .exit)) n ⌝ }
 {
     let unit = wide(units(job));
+    let edition = sheeted(job);
     let t = close(work, size, len);
     let joins = t.joins;
     let end = answer_all(
@@ -148,6 +150,7 @@ pub fn respond(job: &[u8], room: &mut [u8], work: &mut [u16], size: usize, len: 
         Closed {
             size,
             unit,
+            sheeted: edition,
             len,
             joins,
         },

@@ -8,9 +8,9 @@ use lib.ListN.{length, drop}
 use Rattle.meaning.specs.Following.{Rec, UpTo, Leader}
 use Rattle.meaning.proofs.Units.{leader-one}
 use Rattle.job_field.specs.Items.{Head, ask}
-use Rattle.report.specs.Report.{numbers, field, Answers, led, tabled, afterRecords}
+use Rattle.report.specs.Report.{numbers, field, Answers, led, reasoned, tabled, afterRecords}
 use Rattle.report.specs.Fault.{Stands, stands}
-use Rattle.report.proofs.Known.{stands-map}
+use Rattle.report.proofs.Known.{stands-map, no-reason}
 use Rattle.report.proofs.Bytes.{length-field, length-numbers}
 use Rattle.report_read.specs.Read.{Holds}
 use Rattle.report_read.proofs.Read.{holds-rest, holds-room}
@@ -33,6 +33,7 @@ found {P} report at h = go h refl
 -- An ask has one right field.
 ask-field : {H : Head} {rs : List Rec} {R s t l m : ℕ} {f : List ℕ} → Leader (H .units) (UpTo rs R) s l → Leader (H .units) (UpTo rs R) t m → Answers (tabled H rs) (afterRecords R) (ask s t) f → f ≡ field 131 (numbers (l ∷ m ∷ []))
 ask-field h k (led h′ k′) = rw (leader-one h′ h, leader-one k′ k)
+ask-field h k (reasoned r g) = absurd (no-reason refl r)
 
 length-pair : (kind a b : ℕ) → length (field kind (numbers (a ∷ b ∷ []))) ≡ 7
 length-pair kind a b = omega (arith, length-field kind (numbers (a ∷ b ∷ [])), length-numbers (a ∷ b ∷ []))

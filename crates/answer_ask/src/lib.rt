@@ -31,10 +31,11 @@ pub fn answer_ask(
     out + 7
 }
 
-// Whether a right field stands at a place: then the place behind it.
+// Whether a right field stands at a place: then the place behind it. Where a right reason stands and its sheets do not stand behind it, the place where they should.
 pub enum Passed {
     To(usize),
     Wrong,
+    Astray(usize),
 }
 
 // Whether the answer to an ask stands at a place: the two leaders by the records before the question.

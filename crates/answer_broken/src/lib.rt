@@ -1,5 +1,6 @@
-// The answer to a question 06 as a field of the report: the earliest pair that must differ and is equal by the records before the question, with a reason, or
-// that there is none. Document 02, No. 1. Rests on pairs, moment, answer_ask, reason, report_write and report_numbers.
+// The answer to a question 06 as a field of the report: the earliest pair that must differ and is equal by the records before the question, with a reason and
+// in edition 2 its sheets, or that there is none. Document 02, No. 1 and 9. Rests on pairs, moment, answer_ask, reason, report_write, report_numbers and
+// answer_sheets.
 ghost use Prim.Native.Nat.{_+_, _≤_};
 ghost use lib.ListN.{length};
 ghost use Rattle.job_field.specs.Items.{broken, roomOf};
@@ -8,6 +9,7 @@ ghost use Rattle.moment.specs.Posed.{headOf};
 ghost use Rattle.pairs.specs.Breaking.{Breaking};
 ghost use Rattle.answer_ask.specs.Facing.{Replied};
 ghost use Rattle.answer_broken.specs.Breach.{Broke, Breached};
+use answer_sheets::file_sheets;
 use meaning::Tag;
 use moment::Closed;
 use pairs::first_broken;
@@ -18,8 +20,9 @@ use report::INTACT;
 use report_numbers::write_breach;
 use report_write::write_bare;
 
-// The number of a broken pair and why its tags are equal, as a field at a place of the room; the place behind it.
+// The number of a broken pair and why its tags are equal, with the sheets of that, as fields at a place of the room; the place behind them.
 fn answer_breach(
+    job: &[u8],
     room: &mut [u8],
     work: &mut [u16],
     c: Closed,
@@ -29,13 +32,13 @@ fn answer_breach(
     s: Tag,
     t: Tag,
 ) -> usize
-    requires { ⌜ Broke (now work) (now room) (c .size) (c .len) (c .joins) before out number (s .0) (t .0) ⌝ }
-    ensures { λ end. ⌜ Breached (now (work .entry)) (now (room .entry)) (c .size) (c .len) before out number (s .0) (t .0) (now (work .exit)) (now (room .exit)) end ⌝ }
+    requires { ⌜ Broke (now job) (now work) (now room) (headOf c) (c .len) (c .joins) before out number (s .0) (t .0) ⌝ }
+    ensures { λ end. ⌜ Breached (now (job .entry)) (now (work .entry)) (now (room .entry)) (c .size) (c .len) before out number (s .0) (t .0) (now (work .exit)) (now (room .exit)) end ⌝ }
 {
     match explain(work, c.size, c.len, c.joins, before, s, t) {
         Answer::Because(count) => {
             write_breach(room, out, number, work, count);
-            out + 5 + 2 * count
+            file_sheets(job, room, work, c.sheeted, count, out + 5 + 2 * count)
         }
         Answer::Apart => out,
     }
@@ -60,5 +63,5 @@ pub fn answer_broken(
         return out + 3;
     }
     let pair = pair_at(job, number);
-    answer_breach(room, work, c, before, out, number, pair.s, pair.t)
+    answer_breach(job, room, work, c, before, out, number, pair.s, pair.t)
 }

@@ -1,8 +1,8 @@
-// The answer to an explain as a field of the report, by the joins that were made before the question. Document 01, "Reasons" and "The job and
-// the report". Rests on moment, answer_ask, reason, report_write and report_numbers.
-ghost use Rattle.job_field.specs.Items.{explain as explains};
+// The answer to an explain as a field of the report, by the joins that were made before the question, with the sheets of its reason behind it in edition 2.
+// Document 01, "Reasons" and "The job and the report"; document 02, No. 9. Rests on moment, answer_ask, reason, report_write, report_numbers and answer_sheets.
 ghost use Rattle.moment.specs.Posed.{headOf};
-ghost use Rattle.answer_ask.specs.Facing.{Facing, Answered};
+ghost use Rattle.answer_explain.specs.Explaining.{Explaining, Explained};
+use answer_sheets::file_sheets;
 use meaning::Tag;
 use moment::Closed;
 use reason::Answer;
@@ -10,8 +10,9 @@ use reason::explain;
 use report_numbers::write_reason;
 use report_write::write_apart;
 
-// Why two tags are equal, or that they are not, as a field at a place of the room; the place behind it.
+// Why two tags are equal, with the sheets of that, or that they are not, as fields at a place of the room; the place behind them.
 pub fn answer_explain(
+    job: &[u8],
     room: &mut [u8],
     work: &mut [u16],
     c: Closed,
@@ -20,13 +21,13 @@ pub fn answer_explain(
     s: Tag,
     t: Tag,
 ) -> usize
-    requires { ⌜ Facing (now work) (now room) (headOf c) (c .len) (c .joins) before out (explains (s .0) (t .0)) ⌝ }
-    ensures { λ end. ⌜ Answered (now (work .entry)) (now (room .entry)) (headOf c) (c .len) before out (explains (s .0) (t .0)) (now (work .exit)) (now (room .exit)) end ⌝ }
+    requires { ⌜ Explaining (now job) (now work) (now room) (headOf c) (c .len) (c .joins) before out (s .0) (t .0) ⌝ }
+    ensures { λ end. ⌜ Explained (now (job .entry)) (now (work .entry)) (now (room .entry)) before out (s .0) (t .0) (now (work .exit)) (now (room .exit)) end ⌝ }
 {
     match explain(work, c.size, c.len, c.joins, before, s, t) {
         Answer::Because(count) => {
             write_reason(room, out, work, count);
-            out + 3 + 2 * count
+            file_sheets(job, room, work, c.sheeted, count, out + 3 + 2 * count)
         }
         Answer::Apart => {
             write_apart(room, out);

@@ -15,8 +15,9 @@ use Rattle.table.specs.Map.{recordsIn, gather}
 use Rattle.table.specs.Past.{Past}
 use Rattle.table.proofs.Frame.{length-gather, getD-gather}
 use Rattle.leading.specs.Leading.{leaderIn, Leadable, Led as LedIn}
-use Rattle.report.specs.Report.{numbers, field, Answers, parted, joined, tabled, afterRecords}
+use Rattle.report.specs.Report.{numbers, field, Answers, reasoned, parted, joined, tabled, afterRecords}
 use Rattle.report.proofs.Bytes.{length-field, length-numbers}
+use Rattle.report.proofs.Known.{no-reason}
 use Rattle.report_read.specs.Read.{Holds}
 use Rattle.answer_ask.specs.declared.Passed.the-variants.{To, Wrong}
 use Rattle.answer_ask.specs.Right.{RightAt, to, wrong}
@@ -46,6 +47,7 @@ module _ {H : Head} {rs : List Rec} {R s t : ℕ} (report : List ℕ) (at : ℕ)
     joined-field : {f : List ℕ} → Answers (tabled H rs) (afterRecords R) (why s t) f → f ≡ field 137 []
     joined-field (parted n d) = absurd (n h)
     joined-field (joined g) = refl
+    joined-field (reasoned r g) = absurd (no-reason refl r)
 
     pub joined-right : Holds report at (field 137 []) → RightAt (Answers (tabled H rs) (afterRecords R) (why s t)) report at (To (at + 3))
     joined-right g = to {p = at + 3} (joined h) g (omega (arith, length-field 137 []))
@@ -57,6 +59,7 @@ module _ {H : Head} {rs : List Rec} {R s t : ℕ} (report : List ℕ) (at : ℕ)
     parted-field : {f : List ℕ} → Answers (tabled H rs) (afterRecords R) (why s t) f → f ≡ field 136 (numbers L)
     parted-field (parted n′ d′) = rw (led-one d′ d)
     parted-field (joined g) = absurd (n g)
+    parted-field (reasoned r g) = absurd (no-reason refl r)
 
     pub parted-right : {p : ℕ} → Holds report at (field 136 (numbers L)) → p ≡ at + length (field 136 (numbers L)) → RightAt (Answers (tabled H rs) (afterRecords R) (why s t)) report at (To p)
     parted-right g e = to (parted n d) g e

@@ -23,7 +23,7 @@ faulty n p = record { lent = true; ready = false; number = n; place = p; size = 
 abbrev pub counting : ℕ → ℕ → ℕ → Sight
 counting N k m = record { lent = true; ready = true; number = 0; place = 0; size = N; records = k; needed = m }
 
--- What reading the job tells: the numbers 3 to 8 and 11 to 13 with their place, or N, the number of records and the needed room.
+-- What reading the job tells: the numbers 3 to 8, 11 to 13 and 17 with their place, or N, the number of records and the needed room.
 pub data Viewed (job : List ℕ) : Sight → Type 0 where
   unread : {n p : ℕ} → reading job ≡ refused n p → Viewed job (faulty n p)
   ready : {H : Head} {items : List Item} → reading job ≡ accepted H items → Viewed job (counting (H .size) (length (recordsOf items)) (neededRoom H start items))

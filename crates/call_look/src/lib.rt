@@ -4,10 +4,12 @@ ghost use mathlib.Core.Path.{_≡_};
 ghost use lib.ListN.{length};
 ghost use Rattle.call_look.specs.Look.{Viewed, Looked, declined};
 ghost use mathlib.Core.Bool.{true};
+ghost use Rattle.job_field.specs.Reading.{longest};
 ghost use Prim.Native.Nat.{_≤_};
 ghost use Rattle.table.specs.Places.{Large};
 ghost use Rattle.call_look.specs.Clear.{Cleared, Returned};
 use job_field::number_of;
+use job_field::sheeted;
 use job_read::Answer as Read;
 use job_read::read_job;
 use table_labels::fill;
@@ -16,6 +18,8 @@ use table_labels::fill;
 
 // Document 01's limits: the longest job, and the named places of the record table and of the work table.
 pub const LONGEST: usize = meaning::LONGEST;
+
+pub const LONGEST_SHEETED: usize = meaning::LONGEST_SHEETED;
 
 pub const PLACES: usize = meaning::NAMED_PLACES;
 
@@ -40,7 +44,7 @@ fn wide(x: u16) -> usize
     x as usize
 }
 
-// Numbers 3 to 8 and 11 to 13, in their order.
+// Numbers 3 to 8, 11 to 13 and 17, in their order.
 fn view(job: &[u8]) -> Sight
     ensures { λ r. ⌜ Viewed (now (job .entry)) r ⌝ }
 {
@@ -57,6 +61,7 @@ fn view(job: &[u8]) -> Sight
         Read::Accepted {
             size,
             units: _,
+            sheeted: _,
             records,
             questions: _,
             room,
@@ -87,11 +92,22 @@ fn decline(number: u8) -> Sight
     }
 }
 
+// The longest job of the edition that the first byte tells.
+fn longest_of(job: &[u8]) -> usize
+    ensures { λ r. ⌜ r ≡ longest (now (job .entry)) ⌝ }
+{
+    if sheeted(job) {
+        LONGEST_SHEETED
+    } else {
+        LONGEST
+    }
+}
+
 // Numbers 1 to 8, in their order, for a job and tables of so many places and numbers.
 pub fn look(job: &[u8], places: usize, numbers: usize) -> Sight
     ensures { λ r. ⌜ Looked (now (job .entry)) places numbers r ⌝ }
 {
-    if LONGEST < job.len() {
+    if longest_of(job) < job.len() {
         return decline(1);
     }
     if places < PLACES {

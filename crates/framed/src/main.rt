@@ -208,8 +208,8 @@ fn with_reports(job: &mut [u8]) {
     serve(job, &mut space);
 }
 
-// A job of more than 46,510 bytes is refused whatever its length.
+// 54,511 bytes, one more than the longest job allowed: one of more than 54,510 is refused whatever its length.
 fn main() {
-    let mut space = [0u8; 50000];
+    let mut space = [0u8; 54511];
     with_reports(&mut space);
 }

@@ -30,6 +30,7 @@ pub fn record_of(r: Rubbish) -> Record {
         a: Tag::of(r.step),
         b: Tag::of(r.first),
         c: Tag::of(r.first),
+        sheet: r.step,
     }
 }
 

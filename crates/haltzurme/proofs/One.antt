@@ -3,7 +3,7 @@
 -- Assumes nothing.
 use Prim.Native.Nat.{ℕ, zero, suc, _<_}
 use native.Mathlib.Omega.{arith}
-use mathlib.Core.Path.{_≡_, refl, sym, _∙_, ap₂}
+use mathlib.Core.Path.{_≡_, refl, sym, _∙_, ap, ap₂}
 use mathlib.Core.Logic.{_⊎_, inl, inr}
 use mathlib.Core.List.{List, [], _∷_, _++_}
 use lib.ListN.{length, getD, drop}
@@ -19,11 +19,13 @@ use Rattle.records.specs.declared.Record.{Record}
 use Rattle.records.specs.Table.{blank, Blanked}
 use Rattle.report.specs.Broken.{Earliest, PairReason}
 use Rattle.report.proofs.Broken.{earliest-one, earliest-some}
-use Rattle.report.specs.Report.{numbers, field, led, because, apart, breached, intact, parted, joined, Totalled, total, Sound, totals, passed, answered}
+use Rattle.report.proofs.Known.{no-reason}
+use Rattle.sheets_field.proofs.Field.{sheets-one}
+use Rattle.report.specs.Report.{numbers, field, because, breached, Filed, unfiled, filed, led, reasoned, apart, intact, parted, joined, Totalled, total, Sound, totals, passed, answered}
 use Rattle.call_look.specs.Clear.{Cleared}
 use Rattle.call_look.specs.Lent.{Lent}
 use Rattle.haltzurme.specs.Run.{Ran, long, narrow, unread, cramped, done}
-use Rattle.haltzurme.specs.Alike.{Alike, reasoned, OneRun, equal, chosen}
+use Rattle.haltzurme.specs.Alike.{Alike, OneRun, equal, chosen}
 use Rattle.haltzurme.specs.Alike as alike
 
 -- Two lists of one length whose first k members agree, and what lies behind them, are one.
@@ -48,11 +50,18 @@ led-alike : {M : Matter} {b : Moment} {s t l m l′ m′ : ℕ} {is : List Item}
     → Alike M b (posed (ask s t) ∷ is) (field 131 (numbers (l ∷ m ∷ [])) ++ bs) (field 131 (numbers (l′ ∷ m′ ∷ [])) ++ bs′)
 led-alike h k p q a = rw (p, q) (alike.answered (led h k) a)
 
-breach-alike : {M : Matter} {b : Moment} {k k′ : ℕ} {is : List Item} {L L′ bs bs′ : List ℕ} → Earliest (M .records) (b .records) (M .pairs) (b .differs) k → Earliest (M .records) (b .records) (M .pairs) (b .differs) k′ → PairReason M b k L → PairReason M b k′ L′ → Alike M (after (posed broken) b) is bs bs′
-    → Alike M b (posed broken ∷ is) (field 134 (numbers (k ∷ L)) ++ bs) (field 134 (numbers (k′ ∷ L′)) ++ bs′)
-breach-alike {k = k} {k′ = k′} {L = L} {L′ = L′} e e′ r r′ a =
+-- What stands behind a reason is one.
+pub filed-same : {M : Matter} {L g g′ : List ℕ} → Filed M L g → Filed M L g′ → g ≡ g′
+filed-same (unfiled a) (unfiled b) = refl
+filed-same (unfiled a) (filed b s) = let z : _≡_ {A = ℕ} 0 1 = cc in absurd (omega arith)
+filed-same (filed a s) (unfiled b) = let z : _≡_ {A = ℕ} 0 1 = cc in absurd (omega arith)
+filed-same (filed a s) (filed b t) = ap (λ (hs : List ℕ). field 138 (numbers hs)) (sheets-one s t)
+
+breach-alike : {M : Matter} {b : Moment} {k k′ : ℕ} {is : List Item} {L L′ g g′ bs bs′ : List ℕ} → Earliest (M .records) (b .records) (M .pairs) (b .differs) k → Earliest (M .records) (b .records) (M .pairs) (b .differs) k′ → PairReason M b k L → PairReason M b k′ L′ → Filed M L g → Filed M L′ g′
+    → Alike M (after (posed broken) b) is bs bs′ → Alike M b (posed broken ∷ is) ((field 134 (numbers (k ∷ L)) ++ g) ++ bs) ((field 134 (numbers (k′ ∷ L′)) ++ g′) ++ bs′)
+breach-alike {k = k} {k′ = k′} {L = L} {L′ = L′} e e′ r r′ f f′ a =
     let i : k ≡ k′ = earliest-one e e′ in
-    rw i (alike.breached {k = k′} {L = L} {L′ = L′} e′ (rw i at r) r′ a)
+    rw i (alike.breached {k = k′} {L = L} {L′ = L′} e′ (rw i at r) r′ f f′ a)
 
 parted-alike : {M : Matter} {b : Moment} {s t : ℕ} {L L′ : List ℕ} {is : List Item} {bs bs′ : List ℕ} → (Follows (UpTo (M .records) (b .records)) s t → ⊥) → Led (M .head .size) (M .head .units) (UpTo (M .records) (b .records)) L′ → L ≡ L′
     → Alike M (after (posed (why s t)) b) is bs bs′ → Alike M b (posed (why s t) ∷ is) (field 136 (numbers L) ++ bs) (field 136 (numbers L′) ++ bs′)
@@ -63,18 +72,21 @@ pub sound-alike : {M : Matter} {b : Moment} {is : List Item} {bs bs′ : List �
 sound-alike (totals t) (totals u) = rw (totalled-one t u) (alike.totals u)
 sound-alike (passed s) (passed u) = alike.passed (sound-alike s u)
 sound-alike (answered (led h k) s) (answered (led h′ k′) u) = led-alike h′ k′ (leader-one h h′) (leader-one k k′) (sound-alike s u)
-sound-alike (answered (because r) s) (answered (because r′) u) = reasoned r r′ (sound-alike s u)
-sound-alike (answered (because r) s) (answered (apart n) u) = absurd (n (reason-follows r))
-sound-alike (answered (apart n) s) (answered (because r) u) = absurd (n (reason-follows r))
+sound-alike (answered (led h k) s) (answered (reasoned r g) u) = absurd (no-reason refl r)
+sound-alike (answered (reasoned (because r) f) s) (answered (reasoned (because r′) f′) u) = alike.reasoned r r′ f f′ (sound-alike s u)
+sound-alike (answered (reasoned (because r) f) s) (answered (apart n) u) = absurd (n (reason-follows r))
+sound-alike (answered (apart n) s) (answered (reasoned (because r) f) u) = absurd (n (reason-follows r))
 sound-alike (answered (apart n) s) (answered (apart n′) u) = alike.answered (apart n) (sound-alike s u)
-sound-alike (answered (breached e r) s) (answered (breached e′ r′) u) = breach-alike e e′ r r′ (sound-alike s u)
-sound-alike (answered (breached e r) s) (answered (intact n) u) = absurd (earliest-some e n)
-sound-alike (answered (intact n) s) (answered (breached e r) u) = absurd (earliest-some e n)
+sound-alike (answered (reasoned (breached e r) f) s) (answered (reasoned (breached e′ r′) f′) u) = breach-alike e e′ r r′ f f′ (sound-alike s u)
+sound-alike (answered (reasoned (breached e r) f) s) (answered (intact n) u) = absurd (earliest-some e n)
+sound-alike (answered (intact n) s) (answered (reasoned (breached e r) f) u) = absurd (earliest-some e n)
 sound-alike (answered (intact n) s) (answered (intact n′) u) = alike.answered (intact n) (sound-alike s u)
 sound-alike (answered (parted n d) s) (answered (parted n′ d′) u) = parted-alike n′ d′ (led-one d d′) (sound-alike s u)
 sound-alike (answered (parted n d) s) (answered (joined f) u) = absurd (n f)
 sound-alike (answered (joined f) s) (answered (parted n d) u) = absurd (n f)
 sound-alike (answered (joined f) s) (answered (joined f′) u) = alike.answered (joined f) (sound-alike s u)
+sound-alike (answered (parted n d) s) (answered (reasoned r g) u) = absurd (no-reason refl r)
+sound-alike (answered (joined f) s) (answered (reasoned r g) u) = absurd (no-reason refl r)
 
 -- What is long enough is not short.
 pub lent-not : {job : List ℕ} {records : List Record} {work : List ℕ} → Lent job records work → (length records < namedPlaces) ⊎ (length work < namedNumbers) → ⊥

@@ -8,20 +8,20 @@ use lib.ListN.{length, drop}
 use Rattle.meaning.specs.Reasons.{Reason}
 use Rattle.job_field.specs.Items.{Head, Matter, matterOf, Note, Moment, start, after, Question, explain, broken, Item, noted, posed, accepted}
 use Rattle.job_field.specs.Reading.{reading}
-use Rattle.report.specs.Report.{numbers, field, Answers, Totalled}
+use Rattle.report.specs.Report.{numbers, field, Filed, Answers, Totalled}
 use Rattle.report.specs.Broken.{Earliest, PairReason}
 use Rattle.records.specs.declared.Record.{Record}
 
 -- Two reports of the same items from a moment on, both of right fields, that differ at most in which reason stands where an explain is answered by
--- one, or a 06 by a broken pair, whose number is one.
+-- one, or a 06 by a broken pair, whose number is one, and in the sheets of that reason, which are one for each (proofs/One, filed-same).
 pub data Alike (M : Matter) : Moment → List Item → List ℕ → List ℕ → Type 0 where
   totals : {b : Moment} {bs : List ℕ} → Totalled M bs → Alike M b [] bs bs
   passed : {b : Moment} {n : Note} {is : List Item} {bs bs′ : List ℕ} → Alike M (after (noted n) b) is bs bs′ → Alike M b (noted n ∷ is) bs bs′
   answered : {b : Moment} {q : Question} {is : List Item} {f bs bs′ : List ℕ} → Answers M b q f → Alike M (after (posed q) b) is bs bs′ → Alike M b (posed q ∷ is) (f ++ bs) (f ++ bs′)
-  reasoned : {b : Moment} {s t : ℕ} {is : List Item} {L L′ bs bs′ : List ℕ} → Reason (M .head .size) (M .records) (b .records) s t L → Reason (M .head .size) (M .records) (b .records) s t L′
-      → Alike M (after (posed (explain s t)) b) is bs bs′ → Alike M b (posed (explain s t) ∷ is) (field 132 (numbers L) ++ bs) (field 132 (numbers L′) ++ bs′)
-  breached : {b : Moment} {k : ℕ} {is : List Item} {L L′ bs bs′ : List ℕ} → Earliest (M .records) (b .records) (M .pairs) (b .differs) k → PairReason M b k L → PairReason M b k L′
-      → Alike M (after (posed broken) b) is bs bs′ → Alike M b (posed broken ∷ is) (field 134 (numbers (k ∷ L)) ++ bs) (field 134 (numbers (k ∷ L′)) ++ bs′)
+  reasoned : {b : Moment} {s t : ℕ} {is : List Item} {L L′ g g′ bs bs′ : List ℕ} → Reason (M .head .size) (M .records) (b .records) s t L → Reason (M .head .size) (M .records) (b .records) s t L′ → Filed M L g → Filed M L′ g′
+      → Alike M (after (posed (explain s t)) b) is bs bs′ → Alike M b (posed (explain s t) ∷ is) ((field 132 (numbers L) ++ g) ++ bs) ((field 132 (numbers L′) ++ g′) ++ bs′)
+  breached : {b : Moment} {k : ℕ} {is : List Item} {L L′ g g′ bs bs′ : List ℕ} → Earliest (M .records) (b .records) (M .pairs) (b .differs) k → PairReason M b k L → PairReason M b k L′ → Filed M L g → Filed M L′ g′
+      → Alike M (after (posed broken) b) is bs bs′ → Alike M b (posed broken ∷ is) ((field 134 (numbers (k ∷ L)) ++ g) ++ bs) ((field 134 (numbers (k ∷ L′)) ++ g′) ++ bs′)
 
 -- Two outcomes of a run on the same job and room: number and place are one, both tables are one, and so are length and room, but for the choice
 -- among reasons, where the job is accepted: then both reports are of its own items, held against its own N and records.

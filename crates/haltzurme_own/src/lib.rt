@@ -39,6 +39,7 @@ pub fn none() -> Record
         a: NO_TAG,
         b: NO_TAG,
         c: NO_TAG,
+        sheet: 0,
     }
 }
 

@@ -21,7 +21,7 @@ pub data HarnessRechecked (job report : List ℕ) (records : List Record) (work 
   long : longest job < length job → HarnessRechecked job report records work 1 0 records work
   -- 2: either table is shorter than named. Nothing lent has changed.
   narrow : length job ≤ longest job → (length records < namedPlaces) ⊎ (length work < namedNumbers) → HarnessRechecked job report records work 2 0 records work
-  -- 3 to 8 and 11 to 13: the reading refuses the job.
+  -- 3 to 8, 11 to 13 and 17: the reading refuses the job.
   unread : {n p : ℕ} {records′ : List Record} {work′ : List ℕ} → Lent job records work → harnessReading job ≡ refused n p → Emptied records work records′ work′
       → HarnessRechecked job report records work n p records′ work′
   -- 10: the report is unsound, at the first byte of the first field at fault.

@@ -20,7 +20,7 @@ pub data HarnessRan (job room : List ℕ) (records : List Record) (work : List �
   long : longest job < length job → HarnessRan job room records work 1 0 0 room records work
   -- 2: either table is shorter than named. Nothing lent has changed.
   narrow : length job ≤ longest job → (length records < namedPlaces) ⊎ (length work < namedNumbers) → HarnessRan job room records work 2 0 0 room records work
-  -- 3 to 8 and 11 to 13: the reading refuses the job. The room is unchanged.
+  -- 3 to 8, 11 to 13 and 17: the reading refuses the job. The room is unchanged.
   unread : {n p : ℕ} {records′ : List Record} {work′ : List ℕ} → Lent job records work → harnessReading job ≡ refused n p → Emptied records work records′ work′
       → HarnessRan job room records work n p 0 room records′ work′
   -- 9: the room is smaller than needed. It is unchanged.

@@ -1,3 +1,5 @@
+pub mod Filing
+pub mod Explaining
 pub mod Breach
 pub mod Midway
 pub mod Whole

@@ -51,8 +51,8 @@ module _ {job w room : List ℕ} {H : Head} {len joins before differs out s t : 
   pub why-replied : Answered w room H len before out (why s t) w′ room′ end → Replied job w room before differs out (why s t) w′ room′ end
   why-replied a = record { field = a .field; right = λ b e d. doubted (a .right (matterIn job) b (known B b e)); front = a .front; reached = a .reached; kept = a .kept }
 
-  pub explain-replied : Explained w room H len before out s t w′ room′ end → Replied job w room before differs out (explain s t) w′ room′ end
-  explain-replied a = record { field = a .field; right = λ b e d. a .right (matterIn job) b (known B b e); front = a .front; reached = a .reached; kept = a .kept }
+  pub explain-replied : Explained job w room before out s t w′ room′ end → Replied job w room before differs out (explain s t) w′ room′ end
+  explain-replied a = record { field = a .field; right = λ b e d. a .right b e; front = a .front; reached = a .reached; kept = a .kept }
 
 -- Every step goes behind the field.
 stepped-to : {job w room : List ℕ} {len next : ℕ} {p : Spot} {i : Item} {p′ : Spot} {w′ room′ : List ℕ} → Stepped job w room len next p i p′ w′ room′ → p′ .at ≡ next

@@ -1,16 +1,14 @@
 -- The pieces of a whole report: the columns are kept while the records are closed, and the totals close what the questions left.
 -- Assumes nothing.
-use Prim.Native.Nat.{ℕ, suc, _+_, _-_, _≤_}
+use Prim.Native.Nat.{ℕ, _+_, _-_, _≤_}
 use native.Mathlib.Omega.{arith}
-use mathlib.Core.Path.{_≡_, refl, _∙_, ap}
+use mathlib.Core.Path.{_≡_, _∙_, ap}
 use mathlib.Core.List.{List, [], _∷_, _++_}
 use lib.ListN.{length, length-append}
-use Rattle.meaning.proofs.Laws.{idles-most}
-use Rattle.meaning.specs.Limits.{mostRecords}
 use Rattle.job_field.specs.Items.{Head, recordsOf}
-use Rattle.job_field.specs.Reading.{fieldAt, unitsOf, headIn, itemsIn}
-use Rattle.table.specs.Map.{recAt, recordsIn}
-use Rattle.table.proofs.Frame.{length-gather, within-trans, within-wider}
+use Rattle.job_field.specs.Reading.{itemsIn}
+use Rattle.table.specs.Map.{recordsIn}
+use Rattle.table.proofs.Frame.{within-trans, within-wider}
 use Rattle.table.proofs.Kept.{records-same}
 use Rattle.table.specs.Places.{behindColumns}
 use Rattle.all_close.specs.Closing.{Closing}
@@ -18,22 +16,12 @@ use Rattle.report.specs.Report.{numbers, field, total, laid}
 use Rattle.harness_report.specs.Report.{totals}
 use Rattle.report.proofs.Bytes.{length-field, length-numbers}
 use Rattle.report.proofs.Laid.{length-laid, laid-front, laid-then}
-use Rattle.answer_all.specs.Asking.{Asking, Ready}
+use Rattle.answer_all.specs.Asking.{Ready}
 use Rattle.harness_answer.specs.Answering.{Told, Responded}
 
 module _ {job room w : List ℕ} {N len : ℕ} (r : Ready job room w N len) {w₁ : List ℕ} {joins idle : ℕ} (c : Closing N len w w₁ joins idle) where
   records-after : recordsIn len w₁ ≡ recordsOf (itemsIn job)
   records-after = records-same (c .kept) len ∙ r .records
-
-  -- U is read off the first field.
-  head-read : (u : ℕ) → u ≡ unitsOf (fieldAt job 0) → headIn job ≡ record { size = N; units = u }
-  head-read u e = let z : u ≡ headIn job .units = e ∙ ap unitsOf (r .stands .first) in rw (z, ← r .size) refl
-
-  pub asking-after : (u : ℕ) → u ≡ unitsOf (fieldAt job 0) → Asking job w₁ (record { size = N; units = u }) len joins
-  asking-after u e = record { stands = r .stands; head = head-read u e; short = r .short; few = r .few; records = records-after; past = c .past }
-
-  pub idle-few : idle ≤ mostRecords
-  idle-few = omega (arith, idles-most (c .idles), length-gather (λ k. recAt w₁ (suc k)) len, r .loaded .most)
 
   module _ {H : Head} {w₂ room₁ : List ℕ} {end : ℕ} (t : Told job w₁ room H len joins w₂ room₁ end) where
     pub told-room : end + 7 ≤ length room₁

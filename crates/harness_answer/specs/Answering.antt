@@ -4,12 +4,12 @@ use Prim.Native.Nat.{ℕ, _+_, _≤_, _<_}
 use mathlib.Core.Path.{_≡_}
 use mathlib.Core.List.{List, [], _∷_, _++_}
 use lib.ListN.{length, drop}
-use Rattle.job_field.specs.Items.{Head, Matter, Note, standsFor, pairsIn, Moment, start, Question, explain, Item, noted, posed, recordsOf, pairsOf, neededRoom}
+use Rattle.job_field.specs.Items.{Head, Note, standsFor, pairsIn, Moment, start, Question, explain, Item, noted, posed, recordsOf, pairsOf, neededRoom}
 use Rattle.job_field.specs.Reading.{Field, item, headIn, itemsIn, matterIn}
 use Rattle.job_field.specs.Standing.{Stands}
 use Rattle.table.specs.Map.{recordsIn, Within}
 use Rattle.table.specs.Places.{scratch, behindColumns, behindJoins}
-use Rattle.report.specs.Report.{numbers, field, Known, laid}
+use Rattle.report.specs.Report.{numbers, field, Filed, laid}
 use Rattle.pairs.specs.Marks.{Noted}
 use Rattle.pairs.specs.Breaking.{Guarded}
 use Rattle.answer_all.specs.declared.Spot.{Spot}
@@ -18,20 +18,22 @@ use Rattle.harness_meaning.specs.Harness.{Harness}
 use Rattle.harness_report.specs.Report.{HarnessAnswers, HarnessSound}
 use Rattle.harness_read.specs.Profile.{Equations}
 
--- A field that is right for an explain, whatever else there is to the job, was laid into the room at `out`.
-pub record Explained (w room : List ℕ) (H : Head) (len before out s t : ℕ) (w′ room′ : List ℕ) (end : ℕ) : Type 0 where
+-- The right answer to an explain, at the moment with so many records before it, was laid into the room at `out`.
+pub record Explained (job w room : List ℕ) (before out s t : ℕ) (w′ room′ : List ℕ) (end : ℕ) : Type 0 where
   pub field : List ℕ
-  pub right : (M : Matter) (b : Moment) → Known M b H (recordsIn len w) before → HarnessAnswers M b (explain s t) field
+  pub right : (b : Moment) → b .records ≡ before → HarnessAnswers (matterIn job) b (explain s t) field
   pub front : room′ ≡ laid out field room
   pub reached : end ≡ out + length field
   pub kept : Within scratch w w′
 
--- The number of a broken pair and the reason for its tags were laid into the room.
-pub record Breached (w room : List ℕ) (N len before out k s t : ℕ) (w′ room′ : List ℕ) (end : ℕ) : Type 0 where
+-- The number of a broken pair and the reason for its tags, and what belongs behind that, were laid into the room.
+pub record Breached (job w room : List ℕ) (N len before out k s t : ℕ) (w′ room′ : List ℕ) (end : ℕ) : Type 0 where
   pub list : List ℕ
   pub reason : Harness N (recordsIn len w) before s t list
-  pub front : room′ ≡ laid out (field 134 (numbers (k ∷ list))) room
-  pub reached : end ≡ out + length (field 134 (numbers (k ∷ list)))
+  pub sheets : List ℕ
+  pub filed : Filed (matterIn job) list sheets
+  pub front : room′ ≡ laid out (field 134 (numbers (k ∷ list)) ++ sheets) room
+  pub reached : end ≡ out + length (field 134 (numbers (k ∷ list)) ++ sheets)
   pub kept : Within scratch w w′
 
 -- A field that is right for the job at hand, at the moment with so many records and so many pairs before it.

@@ -1,16 +1,16 @@
 // The questions of an accepted plain harness sheet, answered one after the other, each by the records before it. Document 02, No. 8. An ask and a why are answered as
-// elsewhere; an explain and a 06 by the one reason of this profile. Rests on job_field, all_close, report_write, report_numbers, moment, pairs, answer_ask, answer_why,
-// answer_all (how far the answers have come), harness_read and harness_reason.
+// elsewhere; an explain and a 06 by the one reason of this profile, with its sheets behind it in edition 2 (No. 9). Rests on job_field, all_close, report_write, report_numbers, moment, pairs, answer_ask, answer_why,
+// answer_all (how far the answers have come), answer_sheets, harness_read and harness_reason.
 ghost use mathlib.Core.Path.{_≡_};
 ghost use Prim.Native.Nat.{ℕ, _+_, _*_, _-_, _≤_, _<_, min};
 ghost use lib.ListN.{length};
-ghost use Rattle.job_field.specs.Items.{start, neededRoom, roomOf, broken, explain as explains};
+ghost use Rattle.job_field.specs.Items.{start, neededRoom, roomOf, broken};
 ghost use Rattle.job_field.specs.Reading.{headIn, itemsIn};
 ghost use Rattle.job_field.specs.Answer.{questionSaid, said};
 ghost use Rattle.report.specs.Report.{afterRecords};
 ghost use Rattle.moment.specs.Posed.{headOf};
 ghost use Rattle.pairs.specs.Breaking.{Breaking};
-ghost use Rattle.answer_ask.specs.Facing.{Facing};
+ghost use Rattle.answer_explain.specs.Explaining.{Explaining};
 ghost use Rattle.answer_broken.specs.Breach.{Broke};
 ghost use Rattle.answer_all.specs.Asking.{Asked, Asking, Meeting, Ready};
 ghost use Rattle.harness_read.specs.Profile.{Equations};
@@ -19,6 +19,7 @@ ghost use Rattle.harness_answer.specs.Answering.{Explained, Breached, Re
 use all_close::close;
 use answer_all::Spot;
 use answer_ask::answer_ask;
+use answer_sheets::file_sheets;
 use answer_why::answer_why;
 use harness_read::ends;
 use harness_reason::explain;
@@ -27,6 +28,7 @@ use job_field::Query;
 use job_field::behind;
 use job_field::pairs_in;
 use job_field::read;
+use job_field::sheeted;
 use job_field::stands_for;
 use job_field::units;
 use job_field::wide;
@@ -43,8 +45,9 @@ use report_write::write_apart;
 use report_write::write_bare;
 use report_write::write_totals;
 
-// Why two tags are equal, or that they are not, as a field at a place of the room; the place behind it.
+// Why two tags are equal, with the sheets of that, or that they are not, as fields at a place of the room; the place behind them.
 fn answer_explain(
+    job: &[u8],
     room: &mut [u8],
     work: &mut [u16],
     c: Closed,
@@ -53,13 +56,13 @@ fn answer_explain(
     s: Tag,
     t: Tag,
 ) -> usize
-    requires { ⌜ Facing (now work) (now room) (headOf c) (c .len) (c .joins) before out (explains (s .0) (t .0)) × Plain (c .len) (now work) ⌝ }
-    ensures { λ end. ⌜ Explained (now (work .entry)) (now (room .entry)) (headOf c) (c .len) before out (s .0) (t .0) (now (work .exit)) (now (room .exit)) end ⌝ }
+    requires { ⌜ Explaining (now job) (now work) (now room) (headOf c) (c .len) (c .joins) before out (s .0) (t .0) × Plain (c .len) (now work) ⌝ }
+    ensures { λ end. ⌜ Explained (now (job .entry)) (now (work .entry)) (now (room .entry)) before out (s .0) (t .0) (now (work .exit)) (now (room .exit)) end ⌝ }
 {
     match explain(work, c.size, c.len, c.joins, before, s, t) {
         Answer::Because(count) => {
             write_reason(room, out, work, count);
-            out + 3 + 2 * count
+            file_sheets(job, room, work, c.sheeted, count, out + 3 + 2 * count)
         }
         Answer::Apart => {
             write_apart(room, out);
@@ -68,8 +71,9 @@ fn answer_explain(
     }
 }
 
-// The number of a broken pair and why its tags are equal, as a field at a place of the room; the place behind it.
+// The number of a broken pair and why its tags are equal, with the sheets of that, as fields at a place of the room; the place behind them.
 fn answer_breach(
+    job: &[u8],
     room: &mut [u8],
     work: &mut [u16],
     c: Closed,
@@ -79,13 +83,13 @@ fn answer_breach(
     s: Tag,
     t: Tag,
 ) -> usize
-    requires { ⌜ Broke (now work) (now room) (c .size) (c .len) (c .joins) before out number (s .0) (t .0) × Plain (c .len) (now work) ⌝ }
-    ensures { λ end. ⌜ Breached (now (work .entry)) (now (room .entry)) (c .size) (c .len) before out number (s .0) (t .0) (now (work .exit)) (now (room .exit)) end ⌝ }
+    requires { ⌜ Broke (now job) (now work) (now room) (headOf c) (c .len) (c .joins) before out number (s .0) (t .0) × Plain (c .len) (now work) ⌝ }
+    ensures { λ end. ⌜ Breached (now (job .entry)) (now (work .entry)) (now (room .entry)) (c .size) (c .len) before out number (s .0) (t .0) (now (work .exit)) (now (room .exit)) end ⌝ }
 {
     match explain(work, c.size, c.len, c.joins, before, s, t) {
         Answer::Because(count) => {
             write_breach(room, out, number, work, count);
-            out + 5 + 2 * count
+            file_sheets(job, room, work, c.sheeted, count, out + 5 + 2 * count)
         }
         Answer::Apart => out,
     }
@@ -110,7 +114,7 @@ fn answer_broken(
         return out + 3;
     }
     let pair = pair_at(job, number);
-    answer_breach(room, work, c, before, out, number, pair.s, pair.t)
+    answer_breach(job, room, work, c, before, out, number, pair.s, pair.t)
 }
 
 // A question, as a field at a place of the room; the place behind it.
@@ -129,7 +133,7 @@ fn answer_question(
 {
     match q {
         Query::Ask(s, t) => answer_ask(room, work, c, before, out, s, t),
-        Query::Explain(s, t) => answer_explain(room, work, c, before, out, s, t),
+        Query::Explain(s, t) => answer_explain(job, room, work, c, before, out, s, t),
         Query::Broken => answer_broken(job, room, work, c, before, differs, out),
         Query::Why(s, t) => answer_why(room, work, c, before, out, s, t),
     }
@@ -171,7 +175,7 @@ fn answer_field(
             }
         }
         Field::Bad(_) => p,
-        Field::Header(_, _) => p,
+        Field::Header(_, _, _) => p,
         Field::End => p,
     }
 }
@@ -204,6 +208,7 @@ pub fn respond(job: &[u8], room: &mut [u8], work: &mut [u16], size: usize, len: 
     ensures { λ n. ⌜ Responded (now (job .entry)) (now (room .entry)) (now (work .entry)) (now (room .exit)) (now (work .exit)) n ⌝ }
 {
     let unit = wide(units(job));
+    let edition = sheeted(job);
     let t = close(work, size, len);
     let joins = t.joins;
     let end = answer_all(
@@ -213,6 +218,7 @@ pub fn respond(job: &[u8], room: &mut [u8], work: &mut [u16], size: usize, len: 
         Closed {
             size,
             unit,
+            sheeted: edition,
             len,
             joins,
         },

@@ -1,4 +1,4 @@
--- Each item of a plain harness sheet leads on: a record asks nothing of the report, a right field is passed, and at a wrong one the report's first fault stands. Behind the last
+-- Each item of a plain harness sheet leads on: a record asks nothing of the report, a right field is passed, and at a wrong one the report's first fault stands, or where the sheets of a right reason should stand. Behind the last
 -- item only the totals may stand. Assumes nothing.
 use Prim.Native.Nat.{ℕ, suc, _+_, _-_, _≤_, _<_}
 use native.Mathlib.Omega.{arith}
@@ -9,7 +9,7 @@ use lib.Seq.{drop-cons}
 use Rattle.meaning.specs.Following.{UpTo}
 use Rattle.meaning.specs.Totals.{Classes, Idles}
 use Rattle.meaning.proofs.Laws.{classes-one, idles-one, classes-most, idles-most}
-use Rattle.job_field.specs.Items.{Head, Matter, Moment, start, after, Note, standsFor, pairsIn, Question, explain, tagsOfQuestion, Item, noted, posed, recordsOf, pairsOf}
+use Rattle.job_field.specs.Items.{Head, Matter, Moment, start, after, Note, standsFor, pairsIn, Question, tagsOfQuestion, Item, noted, posed, recordsOf, pairsOf}
 use Rattle.job_field.specs.Reading.{behindAt, fieldAt, bad, header, item, end, headIn, itemsIn, matterIn}
 use Rattle.job_field.specs.Standing.{Below, Job, Met}
 use Rattle.job_field.proofs.Standing.{stands-item, stands-end, stands-not-bad, stands-not-header, stands-within}
@@ -19,14 +19,16 @@ use Rattle.table.specs.Places.{behindJoins, scratch}
 use Rattle.pairs.specs.Marks.{Marking, Noted}
 use Rattle.pairs.specs.Breaking.{Breaking, Guarded}
 use Rattle.pairs.proofs.Breaking.{guarded-begin, guarded-kept, guarded-note, guarded-room, breaking-here}
-use Rattle.report.specs.Report.{numbers, field, Totalled, total}
+use Rattle.report.specs.Report.{numbers, field, Filed, Totalled, total}
 use Rattle.report.specs.Fault.{Stands}
 use Rattle.report.proofs.Fits.{totalled-length}
+use Rattle.report_read.specs.Read.{Holds}
 use Rattle.report_read.proofs.Read.{holds-room}
 use Rattle.answer_ask.specs.declared.Passed.{Passed}
-use Rattle.answer_ask.specs.declared.Passed.the-variants.{To, Wrong}
-use Rattle.answer_ask.specs.Right.{RightAt, to, wrong}
-use Rattle.answer_ask.proofs.Right.{found, right-same}
+use Rattle.answer_ask.specs.declared.Passed.the-variants.{To, Wrong, Astray}
+use Rattle.answer_ask.specs.Right as far
+use Rattle.answer_ask.specs.Right.{RightAt}
+use Rattle.answer_ask.proofs.Right.{found}
 use Rattle.judge.specs.declared.Closed.{Closed}
 use Rattle.judge.specs.declared.Turn.{Turn}
 use Rattle.judge.specs.declared.Judgement.{Judgement}
@@ -36,24 +38,18 @@ use Rattle.judge.specs.Judging.{Judgeable}
 use Rattle.judge.specs.Testing.{Testing}
 use Rattle.judge.specs.Ended.{headOf, Ended}
 use Rattle.judge.specs.Ended as r
-use Rattle.judge.proofs.Going.{known-here}
-use Rattle.meaning.specs.declared.Tag.{Tag}
-use Rattle.harness_report.proofs.Known.{harness-explain-known}
-use Rattle.harness_report.proofs.One.{harness-answers-one}
-use Rattle.harness_test.specs.Stands.{Explained}
+use Rattle.harness_test.specs.Stands.{PassedAt, to, astray, wrong}
+use Rattle.harness_test.proofs.Stands.{none-stands}
 use Rattle.judge.specs.Going.{behind as turnBehind}
-use Rattle.harness_report.specs.Report.{HarnessAnswers, HarnessSound, totals, passed, answered}
-use Rattle.harness_report.specs.Fault.{HarnessFault, past, behind, wrong as faulty, closing, spare}
+use Rattle.harness_report.specs.Report.{HarnessReasoned, HarnessAnswers, HarnessSound, totals, passed, answered}
+use Rattle.harness_report.specs.Fault.{HarnessFault, past, behind, wrong as faulty, astray as unfiled, closing, spare}
 use Rattle.harness_read.specs.Profile.{Equations}
 use Rattle.harness_judge.specs.Judging.{Verdict, sound, fault, Tested, Going, Turned, on, done}
 
--- The one right field of an explain, by the table, is that of the job.
-pub explained-right : {job w w′ report : List ℕ} {H : Head} {len joins before differs at : ℕ} {s t : Tag} {answer : Passed} → Breaking job w H len joins before differs
-    → Explained w w′ report at (record { size = H .size; unit = H .units; len = len; joins = joins; before = before; s = s; t = t }) answer → Tested job report w w′ before differs at (explain (s .0) (t .0)) answer
-explained-right {job} B x = record {
-  kept = x .kept;
-  right = λ b e d. let a = harness-explain-known (known-here B b e) (x .bytes) (x .is) in right-same (λ f z. rw z a) (λ f y. harness-answers-one y a) (x .right);
-}
+-- A field of a question that has no reason is right or wrong by itself.
+pub lone-tested : {M : Matter} {b : Moment} {q : Question} {report : List ℕ} {at : ℕ} {answer : Passed} → ((L f : List ℕ) → HarnessReasoned M b q L f → ⊥) → RightAt (HarnessAnswers M b q) report at answer → PassedAt M b q report at answer
+lone-tested n (far.to {f = f} x h e) = to x h e
+lone-tested n (far.wrong x) = wrong x (λ L s. none-stands n s)
 
 pub going-start : {job w : List ℕ} {N len joins idle : ℕ} (report : List ℕ) → Judgeable job w N len joins idle → (at : ℕ) → at ≡ behindAt job 0 → Going job report w (record { at = at; place = 0; before = 0; differs = 0 })
 going-start {job} {w} report h at e = record {
@@ -79,6 +75,13 @@ module _ {M : Matter} {b : Moment} where
 
   fault-moved : {is : List Item} {at at′ : ℕ} {bs bs′ : List ℕ} {p : ℕ} → at ≡ at′ → bs ≡ bs′ → HarnessFault M b is at bs p → HarnessFault M b is at′ bs′ p
   fault-moved a f h = rw (← a, ← f) h
+
+-- A right reason whose sheets do not stand behind it.
+fault-astray : {M : Matter} {b : Moment} {q : Question} {L f : List ℕ} {is : List Item} {p : ℕ} (report : List ℕ) (at : ℕ) → HarnessReasoned M b q L f → Holds report at f → at + length f ≡ p → (Stands (Filed M L) (drop p report) → ⊥)
+    → HarnessFault M b (posed q ∷ is) at (drop at report) p
+fault-astray {M} {b} {q} {L} {f} {is} {p} report at r h e n =
+    let k : Stands (Filed M L) (drop (at + length f) report) → ⊥ = rw e n in
+    subst (λ (x : ℕ). HarnessFault M b (posed q ∷ is) at (drop at report) x) e (fault-moved refl (sym h) (unfiled r k))
 
 -- What is known while the items `is` are left.
 record Over (job report : List ℕ) (s : Stand) (b : Moment) (is : List Item) : Type 0 where
@@ -125,12 +128,12 @@ module _ {job report w : List ℕ} {s : Stand} (g : Going job report w s) where
       let y = met (noted m) e in
       record { past = p; units = rw z at (j .units); tags = rw z at (y .tags); room = guarded-room m (pairsOf (y .rest)) j (rw (y .first) at (g .guarded)) }
 
-  -- A question whose field is right, or wrong.
-  going-question : (q : Question) (n : ℕ) {w′ : List ℕ} → Within scratch w w′ → n ≡ behindAt job (s .at) → fieldAt job (s .at) ≡ item (posed q) → (a : Passed) → RightAt (HarnessAnswers (matterIn job) (g .moment) q) report (s .place) a
+  -- A question whose answer is right, or wrong, or lacks its sheets.
+  going-question : (q : Question) (n : ℕ) {w′ : List ℕ} → Within scratch w w′ → n ≡ behindAt job (s .at) → fieldAt job (s .at) ≡ item (posed q) → (a : Passed) → PassedAt (matterIn job) (g .moment) q report (s .place) a
       → Turned job report w′ s (turnBehind a n (s .place) (s .before) (s .differs))
   going-question q n {w′} v k e (To p) h = go h refl
     where
-      go : {a : Passed} → RightAt (HarnessAnswers (matterIn job) (g .moment) q) report (s .place) a → a ≡ To p → Turned job report w′ s (turnBehind (To p) n (s .place) (s .before) (s .differs))
+      go : {a : Passed} → PassedAt (matterIn job) (g .moment) q report (s .place) a → a ≡ To p → Turned job report w′ s (turnBehind (To p) n (s .place) (s .before) (s .differs))
       go (to {f = f} {p = p′} a h x) z =
           let m = met (posed q) e in
           let o = over g (posed q ∷ m .rest) (m .first) in
@@ -150,12 +153,24 @@ module _ {job report w : List ℕ} {s : Stand} (g : Going job report w s) where
             sound = λ t. o .sound (sound-moved bs (answered a t));
             fault = λ r t. o .fault r (fault-moved refl bs (behind a (fault-moved (sym y) refl t)));
           })
-      go (wrong h) z = let y : _≡_ {A = ℕ} 0 1 = cc in absurd (omega arith)
+      go (wrong h l) z = let y : _≡_ {A = ℕ} 0 1 = cc in absurd (omega arith)
+      go (astray r h x n) z = let y : _≡_ {A = ℕ} 0 1 = cc in absurd (omega arith)
   going-question q n {w′} v k e Wrong h = go h refl
     where
-      go : {a : Passed} → RightAt (HarnessAnswers (matterIn job) (g .moment) q) report (s .place) a → a ≡ Wrong → Turned job report w′ s (turnBehind Wrong n (s .place) (s .before) (s .differs))
+      go : {a : Passed} → PassedAt (matterIn job) (g .moment) q report (s .place) a → a ≡ Wrong → Turned job report w′ s (turnBehind Wrong n (s .place) (s .before) (s .differs))
       go (to a h x) z = let y : _≡_ {A = ℕ} 0 1 = cc in absurd (omega arith)
-      go (wrong h) z = let m = met (posed q) e in done (fault (over g (posed q ∷ m .rest) (m .first) .fault (s .place) (faulty h)))
+      go (wrong h l) z = let m = met (posed q) e in done (fault (over g (posed q ∷ m .rest) (m .first) .fault (s .place) (faulty h l)))
+      go (astray r h x n) z = let y : _≡_ {A = ℕ} 0 1 = cc in absurd (omega arith)
+  going-question q n {w′} v k e (Astray p) h = go h refl
+    where
+      go : {a : Passed} → PassedAt (matterIn job) (g .moment) q report (s .place) a → a ≡ Astray p → Turned job report w′ s (turnBehind (Astray p) n (s .place) (s .before) (s .differs))
+      go (to a h x) z = let y : _≡_ {A = ℕ} 0 1 = cc in absurd (omega arith)
+      go (wrong h l) z = let y : _≡_ {A = ℕ} 0 1 = cc in absurd (omega arith)
+      go (astray {f = f} {p = p′} r h x m) z =
+          let i = met (posed q) e in
+          let y : s .place + length f ≡ p = cc in
+          let j : p′ ≡ p = cc in
+          done (fault (over g (posed q ∷ i .rest) (i .first) .fault p (fault-astray report (s .place) r h y (rw j at m))))
 
   -- No other field stands among the items.
   pub going-bad : (n : ℕ) → fieldAt job (s .at) ≡ bad n → ⊥

@@ -11,14 +11,14 @@ use Rattle.table.specs.Map.{Within}
 use Rattle.table.specs.Places.{scratch, behindJoins}
 use Rattle.pairs.specs.Breaking.{Guarded}
 use Rattle.answer_ask.specs.declared.Passed.{Passed}
-use Rattle.answer_ask.specs.Right.{RightAt}
 use Rattle.judge.specs.declared.Judgement.{Judgement}
 use Rattle.judge.specs.declared.Judgement.the-variants as j
 use Rattle.judge.specs.declared.Stand.{Stand}
 use Rattle.judge.specs.declared.Turn.{Turn}
 use Rattle.judge.specs.declared.Turn.the-variants.{On, Done}
-use Rattle.harness_report.specs.Report.{HarnessAnswers, HarnessSound}
+use Rattle.harness_report.specs.Report.{HarnessSound}
 use Rattle.harness_report.specs.Fault.{HarnessFault}
+use Rattle.harness_test.specs.Stands.{PassedAt}
 
 -- What is answered of the bytes of a report that are left, from a place of it on, for the items that are left: they are sound, or the
 -- first place at fault.
@@ -31,11 +31,11 @@ pub record Judged (job report w w′ : List ℕ) (answer : Judgement) : Type 0 w
   pub kept : Within behindJoins w w′
   pub verdict : Verdict (matterIn job) start (itemsIn job) 0 report answer
 
--- At the moment with so many records and so many pairs before it the right field stands there or none does, and only where reasons are looked for has
--- the table changed.
+-- At the moment with so many records and so many pairs before it the right answer stands there, or a right reason without its sheets, or neither, and only where reasons are
+-- looked for has the table changed.
 pub record Tested (job report w w′ : List ℕ) (before differs place : ℕ) (q : Question) (answer : Passed) : Type 0 where
   pub kept : Within scratch w w′
-  pub right : (b : Moment) → b .records ≡ before → b .differs ≡ differs → RightAt (HarnessAnswers (matterIn job) b q) report place answer
+  pub right : (b : Moment) → b .records ≡ before → b .differs ≡ differs → PassedAt (matterIn job) b q report place answer
 
 -- The items that are left stand at the place in the job, and the pairs before them are kept; the fields before the place in the report are
 -- right, so that what the bytes from there on are decides the whole.

@@ -1,5 +1,5 @@
 // The judge of a report of a plain harness sheet against its job, over the table that the closure left: the report fields are compared in order, and the judge stops at the
-// first that is at fault. Document 02, No. 8, "Its recheck uses this rule". Rests on job_field, pairs, answer_ask, answer_why, judge (what is answered, and how far the
+// first that is at fault. Document 02, No. 8, "Its recheck uses this rule", and No. 9. Rests on job_field, pairs, answer_ask, answer_why, judge (what is answered, and how far the
 // judge has come) and harness_test.
 ghost use mathlib.Core.Path.{_≡_};
 ghost use Rattle.job_field.specs.Answer.{questionSaid};
@@ -18,6 +18,7 @@ use job_field::Field;
 use job_field::Query;
 use job_field::behind;
 use job_field::pairs_in;
+use job_field::sheeted;
 use job_field::stands_for;
 use job_field::units;
 use job_field::wide;
@@ -47,7 +48,7 @@ fn tested(
 {
     match q {
         Query::Ask(a, b) => led(report, place, work, posed(closed, before, a, b)),
-        Query::Explain(a, b) => explained(report, place, work, posed(closed, before, a, b)),
+        Query::Explain(a, b) => explained(job, report, place, work, posed(closed, before, a, b)),
         Query::Broken => checked(job, report, place, work, left(closed), before, differs),
         Query::Why(a, b) => doubted(report, place, work, posed(closed, before, a, b)),
     }
@@ -65,7 +66,7 @@ fn advance(job: &[u8], report: &[u8], work: &mut [u16], closed: Closed, s: Stand
     let next = behind(job, at);
     match job_field::read(job, at) {
         Field::Bad(_) => Turn::Done(Judgement::Fault(place)),
-        Field::Header(_, _) => Turn::Done(Judgement::Fault(place)),
+        Field::Header(_, _, _) => Turn::Done(Judgement::Fault(place)),
         Field::Noted(l) => {
             mark_note(l, work, left(closed), differs);
             Turn::On(Stand {
@@ -100,9 +101,11 @@ pub fn judge(
     ensures { λ r. ⌜ Judged (now (job .entry)) (now (report .entry)) (now (work .entry)) (now (work .exit)) r ⌝ }
 {
     let unit = wide(units(job));
+    let edition = sheeted(job);
     let closed = Closed {
         size,
         unit,
+        sheeted: edition,
         len,
         joins,
         idle,

@@ -12,7 +12,7 @@ use lib.ListN.{length}
 use borrow.Author.Tests.{lt-ltb, le-ltb, eqb-true}
 use Rattle.meaning.specs.Following.{eq, app}
 use Rattle.job_field.specs.Items.{Head, line, differ, Item, noted, posed, Moment, start, after, Reading, refused, accepted, unsized}
-use Rattle.job_field.specs.Reading.{Kind, first, first-units, record-eq, record-app, note-differ, question-ask, question-explain, question-broken, question-why, last, unknown, byteAt, numberAt, lengthAt, behindAt, kindAt, bodyAt, bodyLength, known, says, Field, bad, header, item, end, orElse, ofKind, fieldAt, counted, sized, fieldTags, tagged, checked, offsetOf, with, behind, onward, readFrom, reading}
+use Rattle.job_field.specs.Reading.{Kind, first, first-units, first-sheets, record-eq, record-app, sheeted-eq, sheeted-app, note-differ, question-ask, question-explain, question-broken, question-why, last, unknown, byteAt, numberAt, lengthAt, behindAt, sheetedIn, kindAt, bodyAt, bodyLength, known, says, Field, bad, header, item, end, orElse, ofKind, fieldAt, counted, sized, filed, fieldTags, tagged, checked, offsetOf, with, behind, onward, readFrom, reading}
 use Rattle.job_field.proofs.Numbers.{tags-few}
 use Rattle.harness_read.specs.Profile.{harnessKind, harnessField, harnessFrom, harnessReading, Equations, Place, none, some, isApply, marked, endsAt, applyFrom, both}
 
@@ -20,13 +20,16 @@ use Rattle.harness_read.specs.Profile.{harnessKind, harnessField, harnes
 module _ (job : List ℕ) (at : ℕ) where
   field-marked : marked job at ≡ true → harnessField job at ≡ bad 4
   unfolding marked harnessField
-  field-marked = go (leb (at + 3) (length job)) (kindAt at (byteAt job at) (lengthAt job at))
+  field-marked = go (leb (at + 3) (length job)) (kindAt (sheetedIn job) at (byteAt job at) (lengthAt job at))
     where
       go : (b : Bool) (k : Kind) → (b && isApply k) ≡ true → orElse b 3 (ofKind job at (harnessKind k)) ≡ bad 4
       go true record-app e = refl
+      go true sheeted-app e = refl
       go true first e = let z : _≡_ {A = ℕ} 0 1 = cc e in absurd (omega arith)
       go true first-units e = let z : _≡_ {A = ℕ} 0 1 = cc e in absurd (omega arith)
+      go true first-sheets e = let z : _≡_ {A = ℕ} 0 1 = cc e in absurd (omega arith)
       go true record-eq e = let z : _≡_ {A = ℕ} 0 1 = cc e in absurd (omega arith)
+      go true sheeted-eq e = let z : _≡_ {A = ℕ} 0 1 = cc e in absurd (omega arith)
       go true note-differ e = let z : _≡_ {A = ℕ} 0 1 = cc e in absurd (omega arith)
       go true question-ask e = let z : _≡_ {A = ℕ} 0 1 = cc e in absurd (omega arith)
       go true question-explain e = let z : _≡_ {A = ℕ} 0 1 = cc e in absurd (omega arith)
@@ -38,13 +41,16 @@ module _ (job : List ℕ) (at : ℕ) where
 
   field-else : marked job at ≡ false → harnessField job at ≡ fieldAt job at
   unfolding marked harnessField fieldAt
-  field-else = go (leb (at + 3) (length job)) (kindAt at (byteAt job at) (lengthAt job at))
+  field-else = go (leb (at + 3) (length job)) (kindAt (sheetedIn job) at (byteAt job at) (lengthAt job at))
     where
       go : (b : Bool) (k : Kind) → (b && isApply k) ≡ false → orElse b 3 (ofKind job at (harnessKind k)) ≡ orElse b 3 (ofKind job at k)
       go true record-app e = let z : _≡_ {A = ℕ} 0 1 = cc e in absurd (omega arith)
+      go true sheeted-app e = let z : _≡_ {A = ℕ} 0 1 = cc e in absurd (omega arith)
       go true first e = refl
       go true first-units e = refl
+      go true first-sheets e = refl
       go true record-eq e = refl
+      go true sheeted-eq e = refl
       go true note-differ e = refl
       go true question-ask e = refl
       go true question-explain e = refl
@@ -55,28 +61,31 @@ module _ (job : List ℕ) (at : ℕ) where
       go false k e = refl
 
   -- A field states room for its tags.
-  tags-body : (k : Kind) (a b c : ℕ) → 2 * length (fieldTags (says k a b c)) ≤ bodyLength k
-  tags-body first a b c = omega arith
-  tags-body first-units a b c = omega arith
-  tags-body record-eq a b c = omega arith
-  tags-body record-app a b c = omega arith
-  tags-body note-differ a b c = omega arith
-  tags-body question-ask a b c = omega arith
-  tags-body question-explain a b c = omega arith
-  tags-body question-broken a b c = omega arith
-  tags-body question-why a b c = omega arith
-  tags-body last a b c = omega arith
-  tags-body unknown a b c = omega arith
+  tags-body : (k : Kind) (a b c d : ℕ) → 2 * length (fieldTags (says k a b c d)) ≤ bodyLength k
+  tags-body first a b c d = omega arith
+  tags-body first-units a b c d = omega arith
+  tags-body first-sheets a b c d = omega arith
+  tags-body record-eq a b c d = omega arith
+  tags-body sheeted-eq a b c d = omega arith
+  tags-body record-app a b c d = omega arith
+  tags-body sheeted-app a b c d = omega arith
+  tags-body note-differ a b c d = omega arith
+  tags-body question-ask a b c d = omega arith
+  tags-body question-explain a b c d = omega arith
+  tags-body question-broken a b c d = omega arith
+  tags-body question-why a b c d = omega arith
+  tags-body last a b c d = omega arith
+  tags-body unknown a b c d = omega arith
 
   field-long : 2 * length (fieldTags (fieldAt job at)) ≤ lengthAt job at
   unfolding fieldAt
   field-long = go (leb (at + 3) (length job)) (known k) (eqb (lengthAt job at) (bodyLength k)) (leb (behindAt job at) (length job)) refl
     where
       k : Kind
-      k = kindAt at (byteAt job at) (lengthAt job at)
+      k = kindAt (sheetedIn job) at (byteAt job at) (lengthAt job at)
 
       go : (p q r s : Bool) → eqb (lengthAt job at) (bodyLength k) ≡ r → 2 * length (fieldTags (orElse p 3 (orElse q 4 (orElse r 5 (orElse s 3 (bodyAt job (at + 3) k)))))) ≤ lengthAt job at
-      go true true true true e = omega (arith, eqb-true (lengthAt job at) (bodyLength k) e, tags-body k (numberAt job (at + 3)) (numberAt job (at + 3 + 2)) (numberAt job (at + 3 + 4)))
+      go true true true true e = omega (arith, eqb-true (lengthAt job at) (bodyLength k) e, tags-body k (numberAt job (at + 3)) (numberAt job (at + 3 + 2)) (numberAt job (at + 3 + 4)) (numberAt job (at + 3 + 6)))
       go true true true false e = omega arith
       go true true false s e = omega arith
       go true false r s e = omega arith
@@ -92,30 +101,35 @@ tagged-either N n (t ∷ ts) f = go (ltb t N) (tagged-either N (suc n) ts f)
     go true (inr e) = let q : suc n + e .0 ≡ n + suc (e .0) = omega arith in inr (suc (e .0), omega (arith, e .1), e .2 ∙ ap bad q)
     go false r = let q : n ≡ n + 0 = omega arith in inr (0, omega arith, ap bad q)
 
-offset-tag : (i L : ℕ) → i < L → L ≤ 3 → offsetOf (11 + i) < 3 + 2 * L
-offset-tag i L l m = go (ℕ-discrete i 0) (ℕ-discrete i 1) (ℕ-discrete i 2)
+-- The place of a tag's refusal is within the tags, whatever length the field states.
+offset-tag : (l i L : ℕ) → i < L → L ≤ 3 → offsetOf l (11 + i) < 3 + 2 * L
+offset-tag l i L h m = go (ℕ-discrete i 0) (ℕ-discrete i 1) (ℕ-discrete i 2)
   where
-    go : Dec (i ≡ 0) → Dec (i ≡ 1) → Dec (i ≡ 2) → offsetOf (11 + i) < 3 + 2 * L
-    go (yes q) b c = let z : offsetOf (11 + i) ≡ 3 = rw q refl in omega arith
-    go (no a) (yes q) c = let z : offsetOf (11 + i) ≡ 5 = rw q refl in omega arith
-    go (no a) (no b) (yes q) = let z : offsetOf (11 + i) ≡ 7 = rw q refl in omega arith
+    go : Dec (i ≡ 0) → Dec (i ≡ 1) → Dec (i ≡ 2) → offsetOf l (11 + i) < 3 + 2 * L
+    go (yes q) b c = let z : offsetOf l (11 + i) ≡ 3 = rw q refl in omega arith
+    go (no a) (yes q) c = let z : offsetOf l (11 + i) ≡ 5 = rw q refl in omega arith
+    go (no a) (no b) (yes q) = let z : offsetOf l (11 + i) ≡ 7 = rw q refl in omega arith
     go (no a) (no b) (no c) = absurd (omega arith)
 
+-- Its place stands inside of the field, if the field states room for its tags.
 record Refused (H : Head) (b : Moment) (f : Field) : Type 0 where
   number : ℕ
   is : checked H b f ≡ bad number
-  inside : offsetOf number < 3 + 2 * length (fieldTags f)
+  inside : (l : ℕ) → 2 * length (fieldTags f) ≤ l → offsetOf l number < 3 + l
 
 checked-either : (H : Head) (b : Moment) (f : Field) → (checked H b f ≡ f) ⊎ Refused H b f
 unfolding checked
-checked-either H b f = go (counted b f) (sized f) refl refl (tagged-either (H .size) 11 (fieldTags f) f)
+checked-either H b f = go (counted b f) (sized f) (filed f) refl refl refl (tagged-either (H .size) 11 (fieldTags f) (orElse (filed f) 17 f))
   where
-    go : (p q : Bool) → counted b f ≡ p → sized f ≡ q → (tagged (H .size) 11 (fieldTags f) f ≡ f) ⊎ ((i : ℕ) × (i < length (fieldTags f)) × (tagged (H .size) 11 (fieldTags f) f ≡ bad (11 + i)))
-        → (checked H b f ≡ f) ⊎ Refused H b f
-    go true true c s (inl e) = inl (rw (c, s) e)
-    go true true c s (inr e) = inr (record { number = 11 + e .0; is = rw (c, s) (e .2); inside = offset-tag (e .0) (length (fieldTags f)) (e .1) (tags-few f) })
-    go true false c s r = let z : offsetOf 6 ≡ 0 = refl in inr (record { number = 6; is = rw (c, s) refl; inside = omega (arith, z) })
-    go false q c s r = let z : offsetOf 7 ≡ 0 = refl in inr (record { number = 7; is = rw c refl; inside = omega (arith, z) })
+    Tags : Type 0
+    Tags = (tagged (H .size) 11 (fieldTags f) (orElse (filed f) 17 f) ≡ orElse (filed f) 17 f) ⊎ ((i : ℕ) × (i < length (fieldTags f)) × (tagged (H .size) 11 (fieldTags f) (orElse (filed f) 17 f) ≡ bad (11 + i)))
+
+    go : (p q r : Bool) → counted b f ≡ p → sized f ≡ q → filed f ≡ r → Tags → (checked H b f ≡ f) ⊎ Refused H b f
+    go true true true c s d (inl e) = let z : orElse (filed f) 17 f ≡ f = rw d refl in inl (rw (c, s) (e ∙ z))
+    go true true false c s d (inl e) = let z : orElse (filed f) 17 f ≡ bad 17 = rw d refl in inr (record { number = 17; is = rw (c, s) (e ∙ z); inside = λ l h. omega arith })
+    go true true r c s d (inr e) = inr (record { number = 11 + e .0; is = rw (c, s) (e .2); inside = λ l h. omega (arith, offset-tag l (e .0) (length (fieldTags f)) (e .1) (tags-few f)) })
+    go true false r c s d t = inr (record { number = 6; is = rw (c, s) refl; inside = λ l h. omega arith })
+    go false q r c s d t = inr (record { number = 7; is = rw c refl; inside = λ l h. omega arith })
 
 checked-bad : (H : Head) (b : Moment) (m : ℕ) → checked H b (bad m) ≡ bad m
 unfolding checked
@@ -209,11 +223,11 @@ module _ (job : List ℕ) where
           → onward (harnessFrom n job) job H b at (checked H b (fieldAt job at)) ≡ both (onward (readFrom n job) job H b at (checked H b (fieldAt job at))) (cond (endsAt (fieldAt job at)) none (applyFrom n job (behindAt job at)))
       else h (inl e) = rw e (on (fieldAt job at) h)
       else h (inr e) =
-          let l : at + offsetOf (e .number) < behindAt job at = omega (arith, e .inside, field-long job at) in
-          rw (e .is) (both-first (e .number) (at + offsetOf (e .number)) (behindAt job at) (cond (endsAt (fieldAt job at)) none (applyFrom n job (behindAt job at))) l (later n at (endsAt (fieldAt job at))))
+          let l : at + offsetOf (lengthAt job at) (e .number) < behindAt job at = omega (arith, e .inside (lengthAt job at) (field-long job at)) in
+          rw (e .is) (both-first (e .number) (at + offsetOf (lengthAt job at) (e .number)) (behindAt job at) (cond (endsAt (fieldAt job at)) none (applyFrom n job (behindAt job at))) l (later n at (endsAt (fieldAt job at))))
 
-      there : refused 4 (at + offsetOf 4) ≡ refused 4 at
-      there = let z : offsetOf 4 ≡ 0 = refl in let q : at + offsetOf 4 ≡ at = omega (arith, z) in ap (λ (x : ℕ). refused 4 x) q
+      there : refused 4 (at + offsetOf (lengthAt job at) 4) ≡ refused 4 at
+      there = let z : offsetOf (lengthAt job at) 4 ≡ 0 = refl in let q : at + offsetOf (lengthAt job at) 4 ≡ at = omega (arith, z) in ap (λ (x : ℕ). refused 4 x) q
 
       go : (c : Bool) → marked job at ≡ c → Rec
           → onward (harnessFrom n job) job H b at (checked H b (harnessField job at)) ≡ both (onward (readFrom n job) job H b at (checked H b (fieldAt job at))) (cond c (some at) (cond (endsAt (fieldAt job at)) none (applyFrom n job (behindAt job at))))
@@ -229,15 +243,15 @@ harness-reading job = harness-both job (suc (length job)) unsized start 0
 abbrev isApp : Field → Bool
 isApp (bad n) = false
 isApp (header M) = false
-isApp (item (noted (line (eq a b)))) = false
-isApp (item (noted (line (app a b c)))) = true
+isApp (item (noted (line (eq a b) v))) = false
+isApp (item (noted (line (app a b c) v))) = true
 isApp (item (noted (differ a b))) = false
 isApp (item (posed q)) = false
 isApp end = false
 
 no-app : (job : List ℕ) (at : ℕ) → isApp (harnessField job at) ≡ false
 unfolding harnessField
-no-app job at = go (leb (at + 3) (length job)) (kindAt at (byteAt job at) (lengthAt job at))
+no-app job at = go (leb (at + 3) (length job)) (kindAt (sheetedIn job) at (byteAt job at) (lengthAt job at))
   where
     last-two : (b c : Bool) (f : Field) → isApp f ≡ false → isApp (orElse b 5 (orElse c 3 f)) ≡ false
     last-two true true f e = e
@@ -250,8 +264,11 @@ no-app job at = go (leb (at + 3) (length job)) (kindAt at (byteAt job at) (lengt
     go : (b : Bool) (k : Kind) → isApp (orElse b 3 (ofKind job at (harnessKind k))) ≡ false
     go true first = of first refl
     go true first-units = of first-units refl
+    go true first-sheets = of first-sheets refl
     go true record-eq = of record-eq refl
+    go true sheeted-eq = of sheeted-eq refl
     go true record-app = refl
+    go true sheeted-app = refl
     go true note-differ = of note-differ refl
     go true question-ask = of question-ask refl
     go true question-explain = of question-explain refl
@@ -264,7 +281,7 @@ no-app job at = go (leb (at + 3) (length job)) (kindAt at (byteAt job at) (lengt
 -- A field of kind 02 with three bytes there is an application or refused.
 app-or-bad : (job : List ℕ) (at : ℕ) → marked job at ≡ true → (isApp (fieldAt job at) ≡ true) ⊎ ((m : ℕ) × (fieldAt job at ≡ bad m))
 unfolding marked fieldAt
-app-or-bad job at = go (leb (at + 3) (length job)) (kindAt at (byteAt job at) (lengthAt job at))
+app-or-bad job at = go (leb (at + 3) (length job)) (kindAt (sheetedIn job) at (byteAt job at) (lengthAt job at))
   where
     tests : (b c : Bool) (f : Field) → isApp f ≡ true → (isApp (orElse b 5 (orElse c 3 f)) ≡ true) ⊎ ((m : ℕ) × (orElse b 5 (orElse c 3 f) ≡ bad m))
     tests true true f e = inl e
@@ -273,9 +290,12 @@ app-or-bad job at = go (leb (at + 3) (length job)) (kindAt at (byteAt job at) (l
 
     go : (b : Bool) (k : Kind) → (b && isApply k) ≡ true → (isApp (orElse b 3 (ofKind job at k)) ≡ true) ⊎ ((m : ℕ) × (orElse b 3 (ofKind job at k) ≡ bad m))
     go true record-app e = tests (eqb (lengthAt job at) (bodyLength record-app)) (leb (behindAt job at) (length job)) (bodyAt job (at + 3) record-app) refl
+    go true sheeted-app e = tests (eqb (lengthAt job at) (bodyLength sheeted-app)) (leb (behindAt job at) (length job)) (bodyAt job (at + 3) sheeted-app) refl
     go true first e = let z : _≡_ {A = ℕ} 0 1 = cc e in absurd (omega arith)
     go true first-units e = let z : _≡_ {A = ℕ} 0 1 = cc e in absurd (omega arith)
+    go true first-sheets e = let z : _≡_ {A = ℕ} 0 1 = cc e in absurd (omega arith)
     go true record-eq e = let z : _≡_ {A = ℕ} 0 1 = cc e in absurd (omega arith)
+    go true sheeted-eq e = let z : _≡_ {A = ℕ} 0 1 = cc e in absurd (omega arith)
     go true note-differ e = let z : _≡_ {A = ℕ} 0 1 = cc e in absurd (omega arith)
     go true question-ask e = let z : _≡_ {A = ℕ} 0 1 = cc e in absurd (omega arith)
     go true question-explain e = let z : _≡_ {A = ℕ} 0 1 = cc e in absurd (omega arith)
@@ -318,10 +338,10 @@ module _ (job : List ℕ) where
       go : (f : Field) → isApp f ≡ false → Rec → onward (harnessFrom n job) job H b at f ≡ accepted M is → Equations is
       go (bad m) a h e = absurd (none-bad e)
       go (header K) a h e = h K b (behindAt job at) M is e
-      go (item (noted (line (eq x y)))) a h e =
-          let r = with-rest (noted (line (eq x y))) (harnessFrom n job H (after (noted (line (eq x y))) b) (behindAt job at)) M is e in
-          rw (r .all) (h H (after (noted (line (eq x y))) b) (behindAt job at) M (r .left) (r .reads))
-      go (item (noted (line (app x y z)))) a h e = let o : _≡_ {A = ℕ} 0 1 = cc a in absurd (omega arith)
+      go (item (noted (line (eq x y) v))) a h e =
+          let r = with-rest (noted (line (eq x y) v)) (harnessFrom n job H (after (noted (line (eq x y) v)) b) (behindAt job at)) M is e in
+          rw (r .all) (h H (after (noted (line (eq x y) v)) b) (behindAt job at) M (r .left) (r .reads))
+      go (item (noted (line (app x y z) v))) a h e = let o : _≡_ {A = ℕ} 0 1 = cc a in absurd (omega arith)
       go (item (noted (differ x y))) a h e =
           let r = with-rest (noted (differ x y)) (harnessFrom n job H (after (noted (differ x y)) b) (behindAt job at)) M is e in
           rw (r .all) (h H (after (noted (differ x y)) b) (behindAt job at) M (r .left) (r .reads))
@@ -346,11 +366,11 @@ module _ (job : List ℕ) where
       on : (f : Field) → Rec → onward (readFrom n job) job H b at f ≡ accepted M is → Equations is → cond (endsAt f) none (applyFrom n job (behindAt job at)) ≡ none
       on (bad m) h e p = refl
       on (header K) h e p = h K b (behindAt job at) M is e p
-      on (item (noted (line (eq x y)))) h e p =
-          let r = with-rest (noted (line (eq x y))) (readFrom n job H (after (noted (line (eq x y))) b) (behindAt job at)) M is e in
-          h H (after (noted (line (eq x y))) b) (behindAt job at) M (r .left) (r .reads) (rw (r .all) at p)
-      on (item (noted (line (app x y z)))) h e p =
-          let r = with-rest (noted (line (app x y z))) (readFrom n job H (after (noted (line (app x y z))) b) (behindAt job at)) M is e in
+      on (item (noted (line (eq x y) v))) h e p =
+          let r = with-rest (noted (line (eq x y) v)) (readFrom n job H (after (noted (line (eq x y) v)) b) (behindAt job at)) M is e in
+          h H (after (noted (line (eq x y) v)) b) (behindAt job at) M (r .left) (r .reads) (rw (r .all) at p)
+      on (item (noted (line (app x y z) v))) h e p =
+          let r = with-rest (noted (line (app x y z) v)) (readFrom n job H (after (noted (line (app x y z) v)) b) (behindAt job at)) M is e in
           absurd (rw (r .all) at p)
       on (item (noted (differ x y))) h e p =
           let r = with-rest (noted (differ x y)) (readFrom n job H (after (noted (differ x y)) b) (behindAt job at)) M is e in
@@ -363,9 +383,9 @@ module _ (job : List ℕ) where
       isapp : (f : Field) → isApp f ≡ true → onward (readFrom n job) job H b at f ≡ accepted M is → Equations is → ⊥
       isapp (bad m) a e p = none-bad e
       isapp (header K) a e p = let z : _≡_ {A = ℕ} 0 1 = cc a in omega arith
-      isapp (item (noted (line (eq x y)))) a e p = let z : _≡_ {A = ℕ} 0 1 = cc a in omega arith
-      isapp (item (noted (line (app x y z)))) a e p =
-          let r = with-rest (noted (line (app x y z))) (readFrom n job H (after (noted (line (app x y z))) b) (behindAt job at)) M is e in
+      isapp (item (noted (line (eq x y) v))) a e p = let z : _≡_ {A = ℕ} 0 1 = cc a in omega arith
+      isapp (item (noted (line (app x y z) v))) a e p =
+          let r = with-rest (noted (line (app x y z) v)) (readFrom n job H (after (noted (line (app x y z) v)) b) (behindAt job at)) M is e in
           rw (r .all) at p
       isapp (item (noted (differ x y))) a e p = let z : _≡_ {A = ℕ} 0 1 = cc a in omega arith
       isapp (item (posed q)) a e p = let z : _≡_ {A = ℕ} 0 1 = cc a in omega arith

@@ -8,7 +8,7 @@ use mathlib.Core.List.{List}
 use lib.Dec.{eqb, leb}
 use lib.ListN.{length}
 use borrow.Author.Tests.{lt-ltb, le-ltb, le-leb, lt-leb, ne-eqb, eqb-true, leb-true}
-use Rattle.job_field.specs.Reading.{Kind, kindAt, byteAt, lengthAt, behindAt, Field, bad, header, item, end, fieldAt}
+use Rattle.job_field.specs.Reading.{Kind, laterKind, editionKind, sheetedIn, kindAt, byteAt, lengthAt, behindAt, Field, bad, header, item, end, fieldAt}
 use Rattle.job_field.proofs.Reading.{and-true, field-whole}
 use Rattle.harness_read.specs.Profile.{none, some, isApply, marked, endsAt, applyFrom, placeIn}
 
@@ -20,17 +20,18 @@ module _ (job : List ℕ) (at : ℕ) where
 
   pub mark-first : at ≡ 0 → false ≡ marked job at
   unfolding marked
-  mark-first e = rw e (go (leb 3 (length job)) (eqb (byteAt job 0) 16) (eqb (lengthAt job 0) 4))
+  mark-first e = rw e (go (leb 3 (length job)) (eqb (byteAt job 0) 16) (eqb (lengthAt job 0) 4) (eqb (byteAt job 0) 17))
     where
-      go : (b c d : Bool) → false ≡ (b && isApply (cond c (cond d Kind.first-units Kind.first) Kind.unknown))
-      go true true true = refl
-      go true true false = refl
-      go true false d = refl
-      go false c d = refl
+      go : (b c d s : Bool) → false ≡ (b && isApply (cond c (cond d Kind.first-units Kind.first) (cond s Kind.first-sheets Kind.unknown)))
+      go true true true s = refl
+      go true true false s = refl
+      go true false d true = refl
+      go true false d false = refl
+      go false c d s = refl
 
   pub mark-byte : at + 3 ≤ length job → at ≢ 0 → eqb (byteAt job at) 2 ≡ marked job at
   unfolding marked
-  mark-byte l n = rw (le-leb (at + 3) (length job) l, ne-eqb at 0 n) (go (byteAt job at) (eqb (byteAt job at) 1) refl)
+  mark-byte l n = rw (le-leb (at + 3) (length job) l, ne-eqb at 0 n) (either (sheetedIn job))
     where
       rest : (p q r s t u v : Bool) → p ≡ isApply (cond p Kind.record-app (cond q Kind.question-ask (cond r Kind.question-explain (cond s Kind.note-differ (cond t Kind.question-broken (cond u Kind.question-why (cond v Kind.last Kind.unknown)))))))
       rest true q r s t u v = refl
@@ -46,9 +47,19 @@ module _ (job : List ℕ) (at : ℕ) where
       go b true e = ne-eqb b 2 (λ q. omega (arith, eqb-true b 1 e))
       go b false e = rest (eqb b 2) (eqb b 3) (eqb b 4) (eqb b 5) (eqb b 6) (eqb b 7) (eqb b 127)
 
+      sheets : (b : ℕ) (c d : Bool) → eqb b 1 ≡ c → eqb b 2 ≡ d → d ≡ isApply (cond c Kind.sheeted-eq (cond d Kind.sheeted-app (laterKind b)))
+      sheets b true true e f = let z : _≡_ {A = ℕ} 0 1 = omega (arith, eqb-true b 1 e, eqb-true b 2 f) in absurd (omega arith)
+      sheets b true false e f = refl
+      sheets b false true e f = refl
+      sheets b false false e f = sym f ∙ go b (eqb b 1) refl
+
+      either : (s : Bool) → eqb (byteAt job at) 2 ≡ isApply (editionKind s (byteAt job at))
+      either true = sheets (byteAt job at) (eqb (byteAt job at) 1) (eqb (byteAt job at) 2) refl refl
+      either false = go (byteAt job at) (eqb (byteAt job at) 1) refl
+
   mark-there : marked job at ≡ true → at + 3 ≤ length job
   unfolding marked
-  mark-there q = leb-true (at + 3) (length job) (and-true (leb (at + 3) (length job)) (isApply (kindAt at (byteAt job at) (lengthAt job at))) q .0)
+  mark-there q = leb-true (at + 3) (length job) (and-true (leb (at + 3) (length job)) (isApply (kindAt (sheetedIn job) at (byteAt job at) (lengthAt job at))) q .0)
 
 -- Where the walk stands.
 pub record Walking (job : List ℕ) (at : ℕ) : Type 0 where

@@ -7,14 +7,17 @@ use lib.Dec.{leb, ltb}
 use lib.ListN.{length}
 use Rattle.meaning.specs.Following.{eq, app}
 use Rattle.job_field.specs.Items.{Head, line, differ, Item, noted, posed, Moment, start, Reading, refused, accepted, unsized}
-use Rattle.job_field.specs.Reading.{Kind, first, first-units, record-eq, record-app, note-differ, question-ask, question-explain, question-broken, question-why, last, unknown, byteAt, lengthAt, behindAt, kindAt, Field, bad, header, item, end, orElse, ofKind, fieldAt, checked, onward}
+use Rattle.job_field.specs.Reading.{Kind, first, first-units, first-sheets, record-eq, record-app, sheeted-eq, sheeted-app, note-differ, question-ask, question-explain, question-broken, question-why, last, unknown, byteAt, lengthAt, behindAt, sheetedIn, kindAt, Field, bad, header, item, end, orElse, ofKind, fieldAt, checked, onward}
 
--- A kind in this profile.
+-- A kind in this profile: 02 is unknown, in both editions.
 abbrev pub harnessKind : Kind → Kind
 harnessKind first = first
 harnessKind first-units = first-units
+harnessKind first-sheets = first-sheets
 harnessKind record-eq = record-eq
 harnessKind record-app = unknown
+harnessKind sheeted-eq = sheeted-eq
+harnessKind sheeted-app = unknown
 harnessKind note-differ = note-differ
 harnessKind question-ask = question-ask
 harnessKind question-explain = question-explain
@@ -25,7 +28,7 @@ harnessKind unknown = unknown
 
 -- The field at a place: the first half of the order, as `fieldAt` has it. So 4 comes before the length of an 02, its body, its count and its tags.
 unfoldable pub harnessField : List ℕ → ℕ → Field
-harnessField job at = orElse (leb (at + 3) (length job)) 3 (ofKind job at (harnessKind (kindAt at (byteAt job at) (lengthAt job at))))
+harnessField job at = orElse (leb (at + 3) (length job)) 3 (ofKind job at (harnessKind (kindAt (sheetedIn job) at (byteAt job at) (lengthAt job at))))
 
 -- Reading from a place, and the whole job, as `readFrom` and `reading`.
 unfoldable pub harnessFrom : ℕ → List ℕ → Head → Moment → ℕ → Reading
@@ -38,8 +41,8 @@ harnessReading job = harnessFrom (suc (length job)) job unsized start 0
 -- Every record is an equation.
 abbrev pub Equations : List Item → Type 0
 Equations [] = Unit {0}
-Equations (noted (line (eq a b)) ∷ is) = Equations is
-Equations (noted (line (app a b c)) ∷ is) = ⊥
+Equations (noted (line (eq a b) h) ∷ is) = Equations is
+Equations (noted (line (app a b c) h) ∷ is) = ⊥
 Equations (noted (differ a b) ∷ is) = Equations is
 Equations (posed q ∷ is) = Equations is
 
@@ -51,8 +54,11 @@ pub data Place : Type 0 where
 abbrev pub isApply : Kind → Bool
 isApply first = false
 isApply first-units = false
+isApply first-sheets = false
 isApply record-eq = false
 isApply record-app = true
+isApply sheeted-eq = false
+isApply sheeted-app = true
 isApply note-differ = false
 isApply question-ask = false
 isApply question-explain = false
@@ -62,7 +68,7 @@ isApply last = false
 isApply unknown = false
 
 unfoldable pub marked : List ℕ → ℕ → Bool
-marked job at = leb (at + 3) (length job) && isApply (kindAt at (byteAt job at) (lengthAt job at))
+marked job at = leb (at + 3) (length job) && isApply (kindAt (sheetedIn job) at (byteAt job at) (lengthAt job at))
 
 -- The walk ends at a field that is refused, and at the end field.
 abbrev pub endsAt : Field → Bool

@@ -34,7 +34,7 @@ pub fn ends(field: Field) -> bool
 {
     match field {
         Field::Bad(_) => true,
-        Field::Header(_, _) => false,
+        Field::Header(_, _, _) => false,
         Field::Noted(_) => false,
         Field::Posed(_) => false,
         Field::End => true,

@@ -23,9 +23,9 @@ IsEq (app a b c) = ⊥
 
 record-is : (is : List Item) → Equations is → (k : ℕ) → k < length (recordsOf is) → IsEq (getD (recordsOf is) k (eq 0 0))
 record-is [] e k l = absurd (omega arith)
-record-is (noted (line (eq a b)) ∷ is) e zero l = tt
-record-is (noted (line (eq a b)) ∷ is) e (suc k) l = record-is is e k (omega arith)
-record-is (noted (line (app a b c)) ∷ is) e k l = absurd e
+record-is (noted (line (eq a b) h) ∷ is) e zero l = tt
+record-is (noted (line (eq a b) h) ∷ is) e (suc k) l = record-is is e k (omega arith)
+record-is (noted (line (app a b c) h) ∷ is) e k l = absurd e
 record-is (noted (differ a b) ∷ is) e k l = record-is is e k l
 record-is (posed q ∷ is) e k l = record-is is e k l
 

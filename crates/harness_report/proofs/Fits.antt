@@ -12,9 +12,9 @@ use Rattle.meaning.proofs.Laws.{classes-some}
 use Rattle.job_field.specs.Items.{Matter, Moment, Question, roomOf, Item, neededRoom}
 use Rattle.report.specs.Report.{numbers}
 use Rattle.report.proofs.Bytes.{length-numbers, length-field}
-use Rattle.report.proofs.Fits.{rising-few, answers-fits, totalled-length}
+use Rattle.report.proofs.Fits.{rising-few, filed-fits, answers-fits, totalled-length}
 use Rattle.harness_meaning.specs.Harness.{Harness}
-use Rattle.harness_report.specs.Report.{HarnessAnswers, asked, because, apart, breached, intact, doubted, HarnessSound, totals, passed, answered}
+use Rattle.harness_report.specs.Report.{because, breached, HarnessAnswers, asked, reasoned, apart, intact, doubted, HarnessSound, totals, passed, answered}
 
 harness-short : {N : ℕ} {rs : List Rec} {R s t : ℕ} {L : List ℕ} → Harness N rs R s t L → length L ≤ 2 * (N - 1)
 harness-short {N} {rs} {R} h = let c = countClasses N rs R in go (decLt 0 N) (h .short (c .0) (c .1)) (c .1)
@@ -28,9 +28,11 @@ harness-few {N} {rs} {R} {s} {t} {L} r = omega (arith, rising-few 0 R L (r .risi
 
 pub harness-answers-fits : {M : Matter} {b : Moment} {q : Question} {f : List ℕ} → HarnessAnswers M b q f → length f ≤ roomOf (M .head) b q
 harness-answers-fits (asked a) = answers-fits a
-harness-answers-fits {M} {b} (because {L = L} r) = omega (arith, length-field 132 (numbers L), length-numbers L, harness-few r)
+harness-answers-fits {M} {b} (reasoned (because {L = L} r) s) =
+    rw length-append (omega (arith, length-field 132 (numbers L), length-numbers L, harness-few r, filed-fits M b (harness-few r) s))
+harness-answers-fits {M} {b} (reasoned (breached {k = k} {L = L} e r) s) =
+    rw length-append (omega (arith, length-field 134 (numbers (k ∷ L)), length-numbers (k ∷ L), harness-few r, filed-fits M b (harness-few r) s))
 harness-answers-fits (apart h) = omega (arith, length-field 133 [])
-harness-answers-fits {M} {b} (breached {k = k} {L = L} e r) = omega (arith, length-field 134 (numbers (k ∷ L)), length-numbers (k ∷ L), harness-few r)
 harness-answers-fits (intact u) = omega (arith, length-field 135 [])
 harness-answers-fits (doubted a) = answers-fits a
 

@@ -1,4 +1,4 @@
 pub mod Fits
-pub mod Fault
 pub mod One
+pub mod Fault
 pub mod Known

@@ -40,7 +40,7 @@ narrow-work each work (inl h) = absurd (enough 4000 each h)
 narrow-work each work (inr h) = h
 
 -- An accepted job's report stands at the front of what the room holds then.
-done-text : (job bs rest : List ℕ) (H : Head) (items : List Item) → reading job ≡ accepted H items → textOf (reading job) (take (length bs) (bs ++ rest)) ≡ linesOf items bs
+done-text : (job bs rest : List ℕ) (H : Head) (items : List Item) → reading job ≡ accepted H items → textOf (reading job) (take (length bs) (bs ++ rest)) ≡ linesOf (H .sheeted) items bs
 done-text job bs rest H items e = rw (e, take-at bs rest (length bs) refl)
 
 module _ {job room work : List ℕ} where

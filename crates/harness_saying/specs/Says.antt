@@ -25,12 +25,12 @@ pub data HarnessRefuses (job : List ℕ) (room numbers : ℕ) : ℕ → ℕ → 
 -- The lines of the sound report of an accepted sheet; or the single line `R number place`.
 pub data HarnessSays (job : List ℕ) (room numbers : ℕ) : List ℕ → Type 0 where
   answers : {H : Head} {items : List Item} {bs : List ℕ} → length job ≤ longest job → namedNumbers ≤ numbers → harnessReading job ≡ accepted H items → neededRoom H start items ≤ room
-      → HarnessSound (matterOf H items) start items bs → HarnessSays job room numbers (linesOf items bs)
+      → HarnessSound (matterOf H items) start items bs → HarnessSays job room numbers (linesOf (H .sheeted) items bs)
   refuses : {n p : ℕ} → HarnessRefuses job room numbers n p → HarnessSays job room numbers (line 82 (n ∷ p ∷ []))
 
--- What is told is true of the sheet. A room of 60,000 bytes at most gives no text that 206,014 bytes do not hold.
+-- What is told is true of the sheet. A room of 60,000 bytes at most gives no text that 214,014 bytes do not hold.
 pub record HarnessTrue (job room work out out′ : List ℕ) (told : Told) : Type 0 where
   pub text : List ℕ
   pub says : HarnessSays job (length room) (length work) text
   pub tells : Tells text out out′ told
-  pub fits : length room ≤ 60000 → 206014 ≤ length out → told ≡ Whole (length text)
+  pub fits : length room ≤ 60000 → 214014 ≤ length out → told ≡ Whole (length text)

@@ -1,5 +1,6 @@
 // Whether the right answer to an explain, and to a 06, stands at a place of a report of a plain harness sheet. Document 02, No. 8, "Its recheck uses this rule". The reason
-// is one, so that it is found again and its field compared byte by byte. Rests on moment, pairs, answer_ask, report, report_read, report_numbers and harness_reason.
+// is one, so that it is found again and its field compared byte by byte; in edition 2 its sheets are looked for behind it (No. 9). Rests on moment, pairs, answer_ask, judge_sheets,
+// judge_explain (what an explain needs), report, report_read, report_numbers and harness_reason.
 ghost use mathlib.Core.Path.{_≡_};
 ghost use mathlib.Core.Bool.{true};
 ghost use mathlib.Core.Logic.{_↔_};
@@ -11,15 +12,17 @@ ghost use Rattle.job_field.specs.Reading.{itemsIn};
 ghost use Rattle.table.specs.Map.{listIn};
 ghost use Rattle.table.specs.Places.{Large};
 ghost use Rattle.report.specs.Report.{numbers, field};
-ghost use Rattle.moment.specs.Posed.{Posed, headOf};
+ghost use Rattle.moment.specs.Posed.{headOf};
 ghost use Rattle.pairs.specs.Breaking.{Breaking};
 ghost use Rattle.answer_ask.specs.Right.{RightAt};
+ghost use Rattle.judge_explain.specs.Right.{Explaining};
 ghost use Rattle.harness_read.specs.Profile.{Equations};
 ghost use Rattle.harness_reason.specs.Explaining.{Plain};
 ghost use Rattle.harness_test.specs.Stands.{IsField, FieldAt, Explained, Broke, Breached, Checked};
 use answer_ask::Passed;
 use harness_reason::explain;
 use job_field::wide;
+use judge_sheets::sheets_behind;
 use meaning::Tag;
 use moment::Closed;
 use moment::Question;
@@ -97,19 +100,23 @@ fn breach_stands(report: &[u8], at: usize, work: &[u16], number: usize, count: u
     }
 }
 
-// Whether the answer to an explain stands at a place: the reason, or that the equality does not follow.
-pub fn explained(report: &[u8], at: usize, work: &mut [u16], q: Question) -> Passed
-    requires { ⌜ Posed (now work) q × Plain (q .len) (now work) × (at ≤ length (now report)) ⌝ }
-    ensures { λ r. ⌜ Explained (now (work .entry)) (now (work .exit)) (now (report .entry)) at q r ⌝ }
+// Whether the answer to an explain stands at a place: the reason with its sheets, or that the equality does not follow.
+pub fn explained(job: &[u8], report: &[u8], at: usize, work: &mut [u16], q: Question) -> Passed
+    requires { ⌜ Explaining (now job) (now work) q × Plain (q .len) (now work) × (at ≤ length (now report)) ⌝ }
+    ensures { λ r. ⌜ Explained (now (job .entry)) (now (report .entry)) (now (work .entry)) (now (work .exit)) at q r ⌝ }
 {
     match explain(work, q.size, q.len, q.joins, q.before, q.s, q.t) {
-        Answer::Because(count) => reason_stands(report, at, work, count),
+        Answer::Because(count) => {
+            let found = reason_stands(report, at, work, count);
+            sheets_behind(found, job, report, at, 3, work, q.sheeted)
+        }
         Answer::Apart => bare(report, at, report::APART),
     }
 }
 
-// Whether the field of a broken pair stands at a place: its number and the reason for its tags.
+// Whether the field of a broken pair stands at a place: its number and the reason for its tags, with the sheets of that.
 fn breach(
+    job: &[u8],
     report: &[u8],
     at: usize,
     work: &mut [u16],
@@ -119,16 +126,19 @@ fn breach(
     s: Tag,
     t: Tag,
 ) -> Passed
-    requires { ⌜ Broke (now work) (c .size) (c .len) (c .joins) before (s .0) (t .0) × Plain (c .len) (now work) × (at ≤ length (now report)) ⌝ }
-    ensures { λ r. ⌜ Breached (now (work .entry)) (now (work .exit)) (now (report .entry)) at (c .size) (c .len) before number (s .0) (t .0) r ⌝ }
+    requires { ⌜ Broke (now job) (now work) (headOf c) (c .len) (c .joins) before (s .0) (t .0) × Plain (c .len) (now work) × (at ≤ length (now report)) ⌝ }
+    ensures { λ r. ⌜ Breached (now (job .entry)) (now (report .entry)) (now (work .entry)) (now (work .exit)) at (c .size) (c .len) before number (s .0) (t .0) r ⌝ }
 {
     match explain(work, c.size, c.len, c.joins, before, s, t) {
-        Answer::Because(count) => breach_stands(report, at, work, number, count),
+        Answer::Because(count) => {
+            let found = breach_stands(report, at, work, number, count);
+            sheets_behind(found, job, report, at, 5, work, c.sheeted)
+        }
         Answer::Apart => Passed::Wrong,
     }
 }
 
-// Whether the answer to a 06 stands at a place, behind so many records and so many pairs: the earliest broken pair with the reason, or that none is broken.
+// Whether the answer to a 06 stands at a place, behind so many records and so many pairs: the earliest broken pair with the reason and its sheets, or that none is broken.
 pub fn checked(
     job: &[u8],
     report: &[u8],
@@ -146,5 +156,5 @@ pub fn checked(
         return bare(report, at, report::INTACT);
     }
     let pair = pair_at(job, number);
-    breach(report, at, work, c, before, number, pair.s, pair.t)
+    breach(job, report, at, work, c, before, number, pair.s, pair.t)
 }

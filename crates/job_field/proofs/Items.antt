@@ -38,11 +38,11 @@ after-questions b (posed q) is = omega arith
 
 -- A note stands for few records.
 pub stands-few : (n : Note) → length (standsFor n) ≤ 1
-stands-few (line r) = omega arith
+stands-few (line r h) = omega arith
 stands-few (differ a b) = omega arith
 
 pub pairs-few : (n : Note) → length (pairsIn n) ≤ 1
-pairs-few (line r) = omega arith
+pairs-few (line r h) = omega arith
 pairs-few (differ a b) = omega arith
 
 pub below-each : (N t : ℕ) (ts : List ℕ) → Below N ts → List·Memᴰ t ts → t < N

@@ -1,4 +1,4 @@
--- Reading refuses by the numbers 3 to 8 and 11 to 13 and by no other: each field's tests have these numbers, and what follows the end has 8.
+-- Reading refuses by the numbers 3 to 8, 11 to 13 and 17 and by no other: each field's tests have these numbers, and what follows the end has 8.
 -- Assumes nothing.
 use Prim.Native.Nat.{ℕ, zero, suc, _+_, _≤_, _<_}
 use native.Mathlib.Omega.{arith}
@@ -9,17 +9,19 @@ use lib.Dec.{eqb, ltb, leb}
 use lib.ListN.{length}
 use Rattle.meaning.specs.Following.{eq, app}
 use Rattle.job_field.specs.Items.{Head, unsized, Moment, start, after, line, differ, ask, explain, broken, why, noted, posed, Item, tagsOf, Reading, refused, accepted}
-use Rattle.job_field.specs.Reading.{Kind, first, first-units, unknown, Field, bad, header, item, end, known, lengthAt, behindAt, bodyLength, bodyAt, orElse, ofKind, fieldAt, kindAt, byteAt, checked, counted, sized, fieldTags, tagged, with, behind, onward, readFrom, reading}
+use Rattle.job_field.specs.Reading.{Kind, first, first-units, first-sheets, unknown, Field, bad, header, item, end, known, lengthAt, behindAt, bodyLength, bodyAt, orElse, ofKind, fieldAt, kindAt, sheetedIn, byteAt, checked, counted, sized, filed, fieldTags, tagged, with, behind, onward, readFrom, reading}
 use Rattle.job_field.proofs.Reading.{body-later}
 
--- The numbers of document 01's table, and those of tags.
+-- The numbers of document 01's table, those of tags, and that of a sheet.
 pub data InRange (n : ℕ) : Type 0 where
   early : 3 ≤ n → n ≤ 8 → InRange n
   tag : 11 ≤ n → n ≤ 13 → InRange n
+  sheet : n ≡ 17 → InRange n
 
 in-some : {n : ℕ} → InRange n → 3 ≤ n
 in-some (early a b) = a
 in-some (tag a b) = omega arith
+in-some (sheet e) = omega arith
 
 pub or-bad : (P : ℕ → Type 0) (b : Bool) (k m : ℕ) (f : Field) → P k → (f ≡ bad m → P m) → orElse b k f ≡ bad m → P m
 or-bad P true k m f r h e = h e
@@ -30,13 +32,14 @@ abbrev pub Early : ℕ → Type 0
 Early n = (3 ≤ n) × (n ≤ 5)
 
 -- The first field's kinds say N and U or nothing, and no later kind says anything else that is refused than 4.
-body-bad : (job : List ℕ) (at m : ℕ) → bodyAt job (at + 3) (kindAt at (byteAt job at) (lengthAt job at)) ≡ bad m → Early m
-body-bad job zero m e = go (eqb (byteAt job 0) 16) (eqb (lengthAt job 0) 4) e
+body-bad : (job : List ℕ) (at m : ℕ) → bodyAt job (at + 3) (kindAt (sheetedIn job) at (byteAt job at) (lengthAt job at)) ≡ bad m → Early m
+body-bad job zero m e = go (eqb (byteAt job 0) 16) (eqb (lengthAt job 0) 4) (eqb (byteAt job 0) 17) e
   where
-    go : (p q : Bool) → bodyAt job 3 (cond p (cond q first-units first) unknown) ≡ bad m → Early m
-    go true true e = let z : _≡_ {A = ℕ} 0 1 = cc in absurd (omega arith)
-    go true false e = let z : _≡_ {A = ℕ} 0 1 = cc in absurd (omega arith)
-    go false r e = let q : 4 ≡ m = cc in rw (← q) (omega arith, omega arith)
+    go : (p q s : Bool) → bodyAt job 3 (cond p (cond q first-units first) (cond s first-sheets unknown)) ≡ bad m → Early m
+    go true true s e = let z : _≡_ {A = ℕ} 0 1 = cc in absurd (omega arith)
+    go true false s e = let z : _≡_ {A = ℕ} 0 1 = cc in absurd (omega arith)
+    go false r true e = let z : _≡_ {A = ℕ} 0 1 = cc in absurd (omega arith)
+    go false r false e = let q : 4 ≡ m = cc in rw (← q) (omega arith, omega arith)
 body-bad job (suc n) m e = let q : m ≡ 4 = body-later job (suc n) (bad m) (omega arith) e in rw q (omega arith, omega arith)
 
 kind-bad : (job : List ℕ) (at m : ℕ) (k : Kind) → (bodyAt job (at + 3) k ≡ bad m → Early m) → ofKind job at k ≡ bad m → Early m
@@ -47,14 +50,14 @@ kind-bad job at m k h =
 
 pub field-bad : (job : List ℕ) (at m : ℕ) → fieldAt job at ≡ bad m → Early m
 unfolding fieldAt
-field-bad job at m = or-bad Early (leb (at + 3) (length job)) 3 m _ (omega arith, omega arith) (kind-bad job at m (kindAt at (byteAt job at) (lengthAt job at)) (body-bad job at m))
+field-bad job at m = or-bad Early (leb (at + 3) (length job)) 3 m _ (omega arith, omega arith) (kind-bad job at m (kindAt (sheetedIn job) at (byteAt job at) (lengthAt job at)) (body-bad job at m))
 
 -- The tags of an item are three at most.
 pub tags-few : (f : Field) → length (fieldTags f) ≤ 3
 tags-few (bad n) = omega arith
 tags-few (header M) = omega arith
-tags-few (item (noted (line (eq a b)))) = omega arith
-tags-few (item (noted (line (app a b c)))) = omega arith
+tags-few (item (noted (line (eq a b) h))) = omega arith
+tags-few (item (noted (line (app a b c) h))) = omega arith
 tags-few (item (noted (differ a b))) = omega arith
 tags-few (item (posed (ask s t))) = omega arith
 tags-few (item (posed (explain s t))) = omega arith
@@ -71,8 +74,9 @@ unfolding checked
 checked-bad H b job at m =
     or-bad InRange (counted b (fieldAt job at)) 7 m _ (early (omega arith) (omega arith))
     (or-bad InRange (sized (fieldAt job at)) 6 m _ (early (omega arith) (omega arith))
-    (tagged-bad (H .size) 11 (fieldTags (fieldAt job at)) (fieldAt job at) m (omega arith) (omega (arith, tags-few (fieldAt job at)))
-    (λ e. early (field-bad job at m e .0) (omega (arith, field-bad job at m e .1)))))
+    (tagged-bad (H .size) 11 (fieldTags (fieldAt job at)) (orElse (filed (fieldAt job at)) 17 (fieldAt job at)) m (omega arith) (omega (arith, tags-few (fieldAt job at)))
+    (or-bad InRange (filed (fieldAt job at)) 17 m (fieldAt job at) (sheet refl)
+    (λ e. early (field-bad job at m e .0) (omega (arith, field-bad job at m e .1))))))
 
 pub with-refused : (i : Item) (X : Reading) (n p : ℕ) → with i X ≡ refused n p → X ≡ refused n p
 with-refused i (refused m q) n p e = e

@@ -6,13 +6,13 @@ use native.Mathlib.Omega.{arith}
 use mathlib.Core.Path.{_≡_, refl, sym, _∙_, ap, subst}
 use mathlib.Core.Bool.{Bool, true, false, cond, _&&_}
 use mathlib.Core.List.{List, [], _∷_}
-use borrow.Author.Tests.{ltb-true, leb-true, lt-leb, ne-eqb}
+use borrow.Author.Tests.{eqb-true, ltb-true, leb-true, lt-leb, ne-eqb}
 use lib.Dec.{eqb, ltb, leb}
 use lib.ListN.{length}
 use Rattle.meaning.specs.Limits.{mostTags}
 use Rattle.job_field.specs.Items.{Head, Moment, start, after, Item, Reading, refused, accepted}
 use Rattle.job_field.specs.Standing.{Below}
-use Rattle.job_field.specs.Reading.{Kind, record-eq, record-app, note-differ, question-ask, question-explain, question-broken, question-why, last, Field, bad, header, item, end, known, bodyLength, bodyAt, laterKind, kindAt, byteAt, lengthAt, behindAt, orElse, ofKind, fieldAt, counted, sizeRight, sized, fieldTags, tagged, checked, with, behind, onward, readFrom}
+use Rattle.job_field.specs.Reading.{Kind, record-eq, record-app, sheeted-eq, sheeted-app, note-differ, question-ask, question-explain, question-broken, question-why, last, Field, bad, header, item, end, known, bodyLength, bodyAt, laterKind, editionKind, sheetedIn, kindAt, byteAt, lengthAt, behindAt, orElse, ofKind, fieldAt, counted, sizeRight, sized, filed, fieldTags, tagged, checked, with, behind, onward, readFrom}
 
 -- A field that is not refused.
 abbrev pub Sound : Field → Type 0
@@ -38,28 +38,31 @@ pub record Passed (H : Head) (b : Moment) (f g : Field) : Type 0 where
   pub count : counted b g ≡ true
   pub number : sized g ≡ true
   pub tags : Below (H .size) (fieldTags g)
+  pub sheet : filed g ≡ true
 
 pub checked-passed : (H : Head) (b : Moment) (f g : Field) → Sound g → checked H b f ≡ g → Passed H b f g
 unfolding checked
 checked-passed H b f g s e =
-    let p = orElse-passed (counted b f) 7 (orElse (sized f) 6 (tagged (H .size) 11 (fieldTags f) f)) g s e in
-    let q = orElse-passed (sized f) 6 (tagged (H .size) 11 (fieldTags f) f) g s (p .1) in
-    let t = tagged-passed (H .size) 11 (fieldTags f) f g s (q .1) in
-    let i : f ≡ g = t .1 in
-    record { is = i; count = rw i at (p .0); number = rw i at (q .0); tags = rw i at (t .0) }
+    let p = orElse-passed (counted b f) 7 (orElse (sized f) 6 (tagged (H .size) 11 (fieldTags f) (orElse (filed f) 17 f))) g s e in
+    let q = orElse-passed (sized f) 6 (tagged (H .size) 11 (fieldTags f) (orElse (filed f) 17 f)) g s (p .1) in
+    let t = tagged-passed (H .size) 11 (fieldTags f) (orElse (filed f) 17 f) g s (q .1) in
+    let h = orElse-passed (filed f) 17 f g s (t .1) in
+    let i : f ≡ g = h .1 in
+    record { is = i; count = rw i at (p .0); number = rw i at (q .0); tags = rw i at (t .0); sheet = rw i at (h .0) }
 
 -- Such a field stands whole in the job.
 pub record Whole (job : List ℕ) (at : ℕ) (g : Field) : Type 0 where
-  pub kind : known (kindAt at (byteAt job at) (lengthAt job at)) ≡ true
+  pub kind : known (kindAt (sheetedIn job) at (byteAt job at) (lengthAt job at)) ≡ true
   pub there : behindAt job at ≤ length job
-  pub is : bodyAt job (at + 3) (kindAt at (byteAt job at) (lengthAt job at)) ≡ g
+  pub length : lengthAt job at ≡ bodyLength (kindAt (sheetedIn job) at (byteAt job at) (lengthAt job at))
+  pub is : bodyAt job (at + 3) (kindAt (sheetedIn job) at (byteAt job at) (lengthAt job at)) ≡ g
 
 pub field-passed : (job : List ℕ) (at : ℕ) (g : Field) → Sound g → fieldAt job at ≡ g → Whole job at g
 unfolding fieldAt
 field-passed job at g s e = go (orElse-passed _ _ _ g s e)
   where
     k : Kind
-    k = kindAt at (byteAt job at) (lengthAt job at)
+    k = kindAt (sheetedIn job) at (byteAt job at) (lengthAt job at)
 
     go : (leb (at + 3) (length job) ≡ true) × (ofKind job at k ≡ g) → Whole job at g
     go (h, e′) = kinds (orElse-passed _ _ _ g s e′)
@@ -71,7 +74,7 @@ field-passed job at g s e = go (orElse-passed _ _ _ g s e)
             lengths (b, e‴) = bodies (orElse-passed _ _ _ g s e‴)
               where
                 bodies : (leb (behindAt job at) (length job) ≡ true) × (bodyAt job (at + 3) k ≡ g) → Whole job at g
-                bodies (d, i) = record { kind = a; there = leb-true _ _ d; is = i }
+                bodies (d, i) = record { kind = a; there = leb-true _ _ d; length = eqb-true _ _ b; is = i }
 
 pub field-whole : (job : List ℕ) (at : ℕ) (g : Field) → Sound g → fieldAt job at ≡ g → behindAt job at ≤ length job
 field-whole job at g s e = field-passed job at g s e .there
@@ -93,8 +96,17 @@ later-says job at b = or (eqb b 1) record-eq tt (or (eqb b 2) record-app tt (or 
     or true k h i = record { says = h }
     or false k h i = i
 
-pub body-later : (job : List ℕ) (at : ℕ) (g : Field) → 0 < at → bodyAt job (at + 3) (kindAt at (byteAt job at) (lengthAt job at)) ≡ g → NotFirst g
-body-later job at g h e = subst NotFirst (rw (ne-eqb at 0 (omega arith)) at e) (later-says job (at + 3) (byteAt job at) .says)
+edition-says : (job : List ℕ) (at : ℕ) (e : Bool) (b : ℕ) → Later job at (editionKind e b)
+edition-says job at true b = go (eqb b 1) (eqb b 2)
+  where
+    go : (p q : Bool) → Later job at (cond p sheeted-eq (cond q sheeted-app (laterKind b)))
+    go true q = record { says = tt }
+    go false true = record { says = tt }
+    go false false = later-says job at b
+edition-says job at false b = later-says job at b
+
+pub body-later : (job : List ℕ) (at : ℕ) (g : Field) → 0 < at → bodyAt job (at + 3) (kindAt (sheetedIn job) at (byteAt job at) (lengthAt job at)) ≡ g → NotFirst g
+body-later job at g h e = subst NotFirst (rw (ne-eqb at 0 (omega arith)) at e) (edition-says job (at + 3) (sheetedIn job) (byteAt job at) .says)
 
 -- So N stands in the first field and nowhere else.
 pub header-first : (job : List ℕ) (at : ℕ) (M : Head) → 0 < at → fieldAt job at ≡ header M → ⊥

@@ -3,15 +3,15 @@
 -- Assumes nothing.
 use Prim.Native.Nat.{ℕ, zero, suc, _+_, _-_, _≤_, _<_}
 use native.Mathlib.Omega.{arith}
-use mathlib.Core.Path.{_≡_, refl, sym, subst}
+use mathlib.Core.Path.{_≡_, refl, sym, ap, subst}
 use mathlib.Core.Bool.{Bool, true, false, cond, _&&_}
 use mathlib.Core.List.{List, [], _∷_}
-use borrow.Author.Tests.{ltb-true, leb-true}
+use borrow.Author.Tests.{eqb-true, ltb-true, leb-true}
 use lib.Dec.{eqb, ltb, leb}
 use lib.ListN.{length}
 use Rattle.meaning.specs.Limits.{mostDiffers, mostQuestions, mostRecords}
 use Rattle.job_field.specs.Items.{Head, unsized, headOf, itemsOf, Moment, start, after, Item, noted, posed, standsFor, Reading, refused, accepted, recordsOf, pairsOf, questionsOf}
-use Rattle.job_field.specs.Reading.{Field, bad, header, item, end, fieldAt, byteAt, lengthAt, firstKind, bodyAt, behindAt, checked, counted, with, behind, onward, readFrom, reading, headIn, itemsIn, first, first-units, unknown}
+use Rattle.job_field.specs.Reading.{Field, bad, header, item, end, fieldAt, sheetedIn, editionOf, byteAt, lengthAt, firstKind, bodyAt, behindAt, checked, counted, with, behind, onward, readFrom, reading, headIn, itemsIn, filed, first, first-units, first-sheets, unknown}
 use Rattle.job_field.specs.Standing.{Few, Stands, ends, next, Job, Met}
 use Rattle.job_field.proofs.Items.{after-records, after-differs, after-questions}
 use Rattle.job_field.proofs.Reading.{Passed, checked-passed, field-whole, field-passed, header-first, and-true, size-right}
@@ -74,7 +74,7 @@ module _ (job : List ℕ) (H : Head) where
           rw (s .first)
           (record {
             size = v .size;
-            stands = next (p .is) (p .tags) (field-whole job at (item i) tt (p .is)) (v .stands);
+            stands = next (p .is) (p .tags) (p .sheet) (field-whole job at (item i) tt (p .is)) (v .stands);
             records = rw (after-records b i (s .others)) at (v .records);
             differs = rw (after-differs b i (s .others)) at (v .differs);
             questions = rw (after-questions b i (s .others)) at (v .questions);
@@ -93,24 +93,37 @@ module _ (job : List ℕ) (H : Head) where
 
 -- The first field is no end field.
 first-body : (job : List ℕ) (at b n : ℕ) → bodyAt job at (firstKind b n) ≡ end → ⊥
-first-body job at b n e = go (eqb b 16) (eqb n 4) e
+first-body job at b n e = go (eqb b 16) (eqb n 4) (eqb b 17) e
   where
-    go : (c d : Bool) → bodyAt job at (cond c (cond d first-units first) unknown) ≡ end → ⊥
-    go true true e = let z : _≡_ {A = ℕ} 0 1 = cc in omega arith
-    go true false e = let z : _≡_ {A = ℕ} 0 1 = cc in omega arith
-    go false d e = let z : _≡_ {A = ℕ} 0 1 = cc in omega arith
+    go : (c d s : Bool) → bodyAt job at (cond c (cond d first-units first) (cond s first-sheets unknown)) ≡ end → ⊥
+    go true true s e = let z : _≡_ {A = ℕ} 0 1 = cc in omega arith
+    go true false s e = let z : _≡_ {A = ℕ} 0 1 = cc in omega arith
+    go false d true e = let z : _≡_ {A = ℕ} 0 1 = cc in omega arith
+    go false d false e = let z : _≡_ {A = ℕ} 0 1 = cc in omega arith
 
 no-end-first : (job : List ℕ) → fieldAt job 0 ≡ end → ⊥
 no-end-first job e = first-body job 3 (byteAt job 0) (lengthAt job 0) (field-passed job 0 end tt e .is)
 
 -- No item stands at 0.
 pub no-item-first : (job : List ℕ) (i : Item) → fieldAt job 0 ≡ item i → ⊥
-no-item-first job i e = go (eqb (byteAt job 0) 16) (eqb (lengthAt job 0) 4) (field-passed job 0 (item i) tt e .is)
+no-item-first job i e = go (eqb (byteAt job 0) 16) (eqb (lengthAt job 0) 4) (eqb (byteAt job 0) 17) (field-passed job 0 (item i) tt e .is)
   where
-    go : (c d : Bool) → bodyAt job 3 (cond c (cond d first-units first) unknown) ≡ item i → ⊥
-    go true true e = let z : _≡_ {A = ℕ} 0 1 = cc in omega arith
-    go true false e = let z : _≡_ {A = ℕ} 0 1 = cc in omega arith
-    go false d e = let z : _≡_ {A = ℕ} 0 1 = cc in omega arith
+    go : (c d s : Bool) → bodyAt job 3 (cond c (cond d first-units first) (cond s first-sheets unknown)) ≡ item i → ⊥
+    go true true s e = let z : _≡_ {A = ℕ} 0 1 = cc in omega arith
+    go true false s e = let z : _≡_ {A = ℕ} 0 1 = cc in omega arith
+    go false d true e = let z : _≡_ {A = ℕ} 0 1 = cc in omega arith
+    go false d false e = let z : _≡_ {A = ℕ} 0 1 = cc in omega arith
+
+-- The first field says which edition it is: its first byte is 11 hex exactly if its records have sheets.
+pub edition-first : (job : List ℕ) (H : Head) → fieldAt job 0 ≡ header H → H .sheeted ≡ sheetedIn job
+edition-first job H e = go (eqb (byteAt job 0) 16) (eqb (lengthAt job 0) 4) (eqb (byteAt job 0) 17) refl refl (field-passed job 0 (header H) tt e .is)
+  where
+    go : (c d s : Bool) → eqb (byteAt job 0) 16 ≡ c → eqb (byteAt job 0) 17 ≡ s → bodyAt job 3 (cond c (cond d first-units first) (cond s first-sheets unknown)) ≡ header H → H .sheeted ≡ s
+    go true d true x y e = absurd (omega (arith, eqb-true (byteAt job 0) 16 x, eqb-true (byteAt job 0) 17 y))
+    go true true false x y e = sym (ap editionOf e)
+    go true false false x y e = sym (ap editionOf e)
+    go false d true x y e = sym (ap editionOf e)
+    go false d false x y e = let z : _≡_ {A = ℕ} 0 1 = cc in absurd (omega arith)
 
 -- On an accepted job the cursor meets exactly the items, in order: N first, then behind it the items, the end field, and nothing.
 pub accepted-stands : (job : List ℕ) (H : Head) (items : List Item) → reading job ≡ accepted H items → Job job H items
@@ -135,30 +148,30 @@ job-stands job H items e = subst (λ (X : Reading). Job job (headOf X) (itemsOf 
 module _ (job : List ℕ) (N : ℕ) where
   pub stands-item : (at : ℕ) (i : Item) (is : List Item) → Stands job N at is → fieldAt job at ≡ item i → Met job N at i is
   stands-item at i is (ends e l) f = let z : _≡_ {A = ℕ} 0 1 = cc in absurd (omega arith)
-  stands-item at i is (next {i = j} {is = js} e t l s) f = let same : j ≡ i = cc in record { rest = js; first = rw same; tags = rw (← same) t; there = l; onward = s }
+  stands-item at i is (next {i = j} {is = js} e t h l s) f = let same : j ≡ i = cc in record { rest = js; first = rw same; tags = rw (← same) t; sheet = rw (← same) h; there = l; onward = s }
 
   pub stands-end : (at : ℕ) (is : List Item) → Stands job N at is → fieldAt job at ≡ end → is ≡ []
   stands-end at is (ends e l) f = refl
-  stands-end at is (next e t l s) f = let z : _≡_ {A = ℕ} 0 1 = cc in absurd (omega arith)
+  stands-end at is (next e t h l s) f = let z : _≡_ {A = ℕ} 0 1 = cc in absurd (omega arith)
 
   pub stands-not-bad : (at n : ℕ) (is : List Item) → Stands job N at is → fieldAt job at ≡ bad n → ⊥
   stands-not-bad at n is (ends e l) f = let z : _≡_ {A = ℕ} 0 1 = cc in omega arith
-  stands-not-bad at n is (next e t l s) f = let z : _≡_ {A = ℕ} 0 1 = cc in omega arith
+  stands-not-bad at n is (next e t h l s) f = let z : _≡_ {A = ℕ} 0 1 = cc in omega arith
 
   pub stands-not-header : (at : ℕ) (n : Head) (is : List Item) → Stands job N at is → fieldAt job at ≡ header n → ⊥
   stands-not-header at n is (ends e l) f = let z : _≡_ {A = ℕ} 0 1 = cc in omega arith
-  stands-not-header at n is (next e t l s) f = let z : _≡_ {A = ℕ} 0 1 = cc in omega arith
+  stands-not-header at n is (next e t h l s) f = let z : _≡_ {A = ℕ} 0 1 = cc in omega arith
 
   -- The same from the items: which field the cursor meets.
   pub stands-first : (at : ℕ) (i : Item) (is : List Item) → Stands job N at (i ∷ is) → fieldAt job at ≡ item i
-  stands-first at i is (next e t l s) = e
+  stands-first at i is (next e t h l s) = e
 
   pub stands-rest : (at : ℕ) (i : Item) (is : List Item) → Stands job N at (i ∷ is) → Stands job N (behindAt job at) is
-  stands-rest at i is (next e t l s) = s
+  stands-rest at i is (next e t h l s) = s
 
   pub stands-last : (at : ℕ) → Stands job N at [] → fieldAt job at ≡ end
   stands-last at (ends e l) = e
 
   pub stands-within : (at : ℕ) (is : List Item) → Stands job N at is → at + 3 ≤ length job
   stands-within at is (ends e l) = omega arith
-  stands-within at is (next e t l s) = omega arith
+  stands-within at is (next e t h l s) = omega arith

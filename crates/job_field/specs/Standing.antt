@@ -2,11 +2,12 @@
 -- Assumes nothing.
 use Prim.Native.Nat.{ℕ, _+_, _≤_, _<_}
 use mathlib.Core.Path.{_≡_}
+use mathlib.Core.Bool.{true}
 use mathlib.Core.List.{List, [], _∷_}
 use lib.ListN.{length}
 use Rattle.meaning.specs.Limits.{mostDiffers, mostQuestions, mostRecords, mostTags}
 use Rattle.job_field.specs.Items.{Head, Item, tagsOf, Moment, start, accepted, recordsOf, pairsOf, questionsOf, neededRoom}
-use Rattle.job_field.specs.Reading.{fieldAt, header, item, end, behindAt, reading}
+use Rattle.job_field.specs.Reading.{fieldAt, header, item, end, filed, behindAt, reading}
 
 -- Tags are below N.
 abbrev pub Below : ℕ → List ℕ → Type 0
@@ -18,7 +19,7 @@ Tagged N i = Below N (tagsOf i)
 
 pub data Stands (job : List ℕ) (N : ℕ) : ℕ → List Item → Type 0 where
   ends : {at : ℕ} → fieldAt job at ≡ end → behindAt job at ≡ length job → Stands job N at []
-  next : {at : ℕ} {i : Item} {is : List Item} → fieldAt job at ≡ item i → Tagged N i → behindAt job at ≤ length job → Stands job N (behindAt job at) is → Stands job N at (i ∷ is)
+  next : {at : ℕ} {i : Item} {is : List Item} → fieldAt job at ≡ item i → Tagged N i → filed (item i) ≡ true → behindAt job at ≤ length job → Stands job N (behindAt job at) is → Stands job N at (i ∷ is)
 
 -- No more stand before a field than the limits allow.
 pub record Few (b : Moment) : Type 0 where
@@ -50,5 +51,6 @@ pub record Met (job : List ℕ) (N at : ℕ) (i : Item) (is : List Item) : Type 
   pub rest : List Item
   pub first : is ≡ i ∷ rest
   pub tags : Tagged N i
+  pub sheet : filed (item i) ≡ true
   pub there : behindAt job at ≤ length job
   pub onward : Stands job N (behindAt job at) rest

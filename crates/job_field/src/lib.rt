@@ -1,19 +1,19 @@
 // The fields of a job: what its bytes say at a place. Document 01, "The job and the report" and "What is lent, and each
-// refusal"; document 02, No. 1 and 2. The field reader below is the only place on this side that makes a tag out of bytes; what limits a field is
+// refusal"; document 02, No. 1 to 3, 7 and 9. The field reader below is the only place on this side that makes a tag out of bytes; what limits a field is
 // tested in job_limits. Rests on meaning.
 ghost use mathlib.Core.Path.{_≡_};
 ghost use Prim.Native.Nat.{_+_, _≤_};
 ghost use lib.ListN.{length};
-ghost use Rattle.job_field.specs.Reading.{byteAt, numberAt, firstKind, kindAt, laterKind, known, bodyLength, says, bodyAt, lengthAt, behindAt, ofKind, fieldAt, unitsOf, offsetOf};
+ghost use Rattle.job_field.specs.Reading.{byteAt, numberAt, firstKind, kindAt, laterKind, sheetedKind, editionKind, sheetedIn, known, bodyLength, says, bodyAt, lengthAt, behindAt, ofKind, fieldAt, unitsOf, offsetOf};
 ghost use Rattle.job_field.specs.Answer.{numberOf, kindOf, noteSaid, said};
-ghost use Rattle.job_field.specs.Items.{standsFor, pairsIn};
+ghost use Rattle.job_field.specs.Items.{standsFor, pairsIn, sheetsIn};
 use meaning::Tag;
 
-// Why a job is refused, in the order of the documents' numbers, 3 to 8 and 11 to 13.
+// Why a job is refused, in the order of the documents' numbers, 3 to 8, 11 to 13 and 17.
 pub enum Fault {
     // The job ends inside a field or before the end field.
     Cut,
-    // An unknown kind, a first field that is not 10, or a second 10.
+    // An unknown kind, a first field that is neither 10 nor 11, or a second one of either.
     Misplaced,
     // A wrong length for the kind.
     Misfit,
@@ -27,6 +27,8 @@ pub enum Fault {
     FirstTag,
     SecondTag,
     ThirdTag,
+    // A sheet above 9,999.
+    Sheet,
 }
 
 // The number that the documents give a refusal.
@@ -43,13 +45,17 @@ pub fn number_of(fault: Fault) -> u8
         Fault::FirstTag => 11,
         Fault::SecondTag => 12,
         Fault::ThirdTag => 13,
+        Fault::Sheet => 17,
     }
 }
 
-// How far behind a field's first byte its refusal has its place: at the tag itself, where one is at fault.
-pub fn offset_of(fault: Fault) -> usize
-    ensures { λ r. ⌜ (r ≡ offsetOf (numberOf fault)) × (r ≤ 7) ⌝ }
+// How far behind a field's first byte its refusal has its place: at the tag or the sheet itself, where one is at fault. The sheet stands at the end of a field
+// of so many bytes of body.
+fn offset_of(fault: Fault, stated: usize) -> usize
+    requires { ⌜ stated ≤ 65535 ⌝ }
+    ensures { λ r. ⌜ (r ≡ offsetOf stated (numberOf fault)) × (r ≤ 65536) ⌝ }
 {
+    let sheet = stated + 1;
     match fault {
         Fault::Cut => 0,
         Fault::Misplaced => 0,
@@ -60,6 +66,7 @@ pub fn offset_of(fault: Fault) -> usize
         Fault::FirstTag => 3,
         Fault::SecondTag => 5,
         Fault::ThirdTag => 7,
+        Fault::Sheet => sheet,
     }
 }
 
@@ -76,12 +83,16 @@ pub enum Kind {
     Doubted,
     Last,
     Unknown,
+    // Those of edition 2: its first field, and its records, which have a sheet.
+    Sheets,
+    EqualOn,
+    ApplyOn,
 }
 
-// A note of the job, which is `Note` in specs/Items: a record, or two tags that must differ.
+// A note of the job, which is `Note` in specs/Items: a record with its sheet, or two tags that must differ.
 pub enum Line {
-    Equation(Tag, Tag),
-    Application(Tag, Tag, Tag),
+    Equation(Tag, Tag, u16),
+    Application(Tag, Tag, Tag, u16),
     Differ(Tag, Tag),
 }
 
@@ -96,14 +107,14 @@ pub enum Query {
 // What stands at a place of a job. A new kind is a new `Line` or `Query`: here the cases stay these five.
 pub enum Field {
     Bad(Fault),
-    // N and U: tags from U up are units.
-    Header(u16, u16),
+    // N and U: tags from U up are units; and whether records have sheets.
+    Header(u16, u16, bool),
     Noted(Line),
     Posed(Query),
     End,
 }
 
-// The kind of the first field, which is 10 hex and nothing else: with U where its length is 4.
+// The kind of the first field, which is 10 hex, with U where its length is 4, or 11 hex, and nothing else.
 fn first_kind(byte: u8, stated: u16) -> Kind
     ensures { λ r. ⌜ kindOf r ≡ firstKind byte stated ⌝ }
 {
@@ -114,11 +125,15 @@ fn first_kind(byte: u8, stated: u16) -> Kind
             Kind::First
         }
     } else {
-        Kind::Unknown
+        if byte == 0x11 {
+            Kind::Sheets
+        } else {
+            Kind::Unknown
+        }
     }
 }
 
-// The kind that a byte names behind the first field.
+// The kind that a byte names behind the first field, in edition 1, in edition 2, and in either.
 fn later_kind(byte: u8) -> Kind
     ensures { λ r. ⌜ kindOf r ≡ laterKind byte ⌝ }
 {
@@ -132,6 +147,28 @@ fn later_kind(byte: u8) -> Kind
         0x07 => Kind::Doubted,
         0x7F => Kind::Last,
         _ => Kind::Unknown,
+    }
+}
+
+fn sheeted_kind(byte: u8) -> Kind
+    ensures { λ r. ⌜ kindOf r ≡ sheetedKind byte ⌝ }
+{
+    if byte == 0x01 {
+        return Kind::EqualOn;
+    }
+    if byte == 0x02 {
+        return Kind::ApplyOn;
+    }
+    later_kind(byte)
+}
+
+fn edition_kind(second: bool, byte: u8) -> Kind
+    ensures { λ r. ⌜ kindOf r ≡ editionKind second byte ⌝ }
+{
+    if second {
+        sheeted_kind(byte)
+    } else {
+        later_kind(byte)
     }
 }
 
@@ -151,6 +188,9 @@ fn is_known(kind: Kind) -> bool
         Kind::Doubted => true,
         Kind::Last => true,
         Kind::Unknown => false,
+        Kind::Sheets => true,
+        Kind::EqualOn => true,
+        Kind::ApplyOn => true,
     }
 }
 
@@ -170,6 +210,9 @@ fn body_length(kind: Kind) -> u16
         Kind::Doubted => 4,
         Kind::Last => 0,
         Kind::Unknown => 0,
+        Kind::Sheets => 4,
+        Kind::EqualOn => 6,
+        Kind::ApplyOn => 8,
     }
 }
 
@@ -178,8 +221,8 @@ pub fn stands_for(l: Line) -> u16
     ensures { λ r. ⌜ r ≡ length (standsFor (noteSaid l)) ⌝ }
 {
     match l {
-        Line::Equation(_, _) => 1,
-        Line::Application(_, _, _) => 1,
+        Line::Equation(_, _, _) => 1,
+        Line::Application(_, _, _, _) => 1,
         Line::Differ(_, _) => 0,
     }
 }
@@ -189,8 +232,8 @@ pub fn pairs_in(l: Line) -> u16
     ensures { λ r. ⌜ r ≡ length (pairsIn (noteSaid l)) ⌝ }
 {
     match l {
-        Line::Equation(_, _) => 0,
-        Line::Application(_, _, _) => 0,
+        Line::Equation(_, _, _) => 0,
+        Line::Application(_, _, _, _) => 0,
         Line::Differ(_, _) => 1,
     }
 }
@@ -204,7 +247,7 @@ fn byte(job: &[u8], at: usize) -> u8
 
 // A number is two bytes, high byte first.
 fn number(job: &[u8], at: usize) -> u16
-    requires { ⌜ at ≤ length (now job) + 4 ⌝ }
+    requires { ⌜ at ≤ length (now job) + 6 ⌝ }
     ensures { λ r. ⌜ r ≡ numberAt (now (job .entry)) at ⌝ }
 {
     let high = byte(job, at) as u16;
@@ -212,30 +255,37 @@ fn number(job: &[u8], at: usize) -> u16
     high * 256 + low
 }
 
-// The kind at a place whose three bytes are there: 10 hex stands first and nowhere else.
+// Whether the job is of edition 2, which its first byte tells.
+pub fn sheeted(job: &[u8]) -> bool
+    ensures { λ r. ⌜ r ≡ sheetedIn (now (job .entry)) ⌝ }
+{
+    byte(job, 0) == 0x11
+}
+
+// The kind at a place whose three bytes are there: 10 hex or 11 hex stands first and nowhere else.
 fn kind_at(job: &[u8], at: usize) -> Kind
     requires { ⌜ at + 3 ≤ length (now job) ⌝ }
-    ensures { λ r. ⌜ kindOf r ≡ kindAt at (byteAt (now (job .entry)) at) (lengthAt (now (job .entry)) at) ⌝ }
+    ensures { λ r. ⌜ kindOf r ≡ kindAt (sheetedIn (now (job .entry))) at (byteAt (now (job .entry)) at) (lengthAt (now (job .entry)) at) ⌝ }
 {
     if at == 0 {
         first_kind(byte(job, at), number(job, at + 1))
     } else {
-        later_kind(byte(job, at))
+        edition_kind(sheeted(job), byte(job, at))
     }
 }
 
 // What a kind says with the numbers of its body: here they become tags.
-fn meant(kind: Kind, a: u16, b: u16, c: u16) -> Field
-    ensures { λ r. ⌜ said r ≡ says (kindOf kind) a b c ⌝ }
+fn meant(kind: Kind, a: u16, b: u16, c: u16, d: u16) -> Field
+    ensures { λ r. ⌜ said r ≡ says (kindOf kind) a b c d ⌝ }
 {
     let x = Tag::of(a);
     let y = Tag::of(b);
     let z = Tag::of(c);
     match kind {
-        Kind::First => Field::Header(a, a),
-        Kind::Units => Field::Header(a, b),
-        Kind::Equal => Field::Noted(Line::Equation(x, y)),
-        Kind::Apply => Field::Noted(Line::Application(x, y, z)),
+        Kind::First => Field::Header(a, a, false),
+        Kind::Units => Field::Header(a, b, false),
+        Kind::Equal => Field::Noted(Line::Equation(x, y, 0)),
+        Kind::Apply => Field::Noted(Line::Application(x, y, z, 0)),
         Kind::Asked => Field::Posed(Query::Ask(x, y)),
         Kind::Explained => Field::Posed(Query::Explain(x, y)),
         Kind::Differed => Field::Noted(Line::Differ(x, y)),
@@ -243,6 +293,9 @@ fn meant(kind: Kind, a: u16, b: u16, c: u16) -> Field
         Kind::Doubted => Field::Posed(Query::Why(x, y)),
         Kind::Last => Field::End,
         Kind::Unknown => Field::Bad(Fault::Misplaced),
+        Kind::Sheets => Field::Header(a, b, true),
+        Kind::EqualOn => Field::Noted(Line::Equation(x, y, c)),
+        Kind::ApplyOn => Field::Noted(Line::Application(x, y, z, d)),
     }
 }
 
@@ -256,6 +309,7 @@ fn body(job: &[u8], at: usize, kind: Kind) -> Field
         number(job, at),
         number(job, at + 2),
         number(job, at + 4),
+        number(job, at + 6),
     )
 }
 
@@ -309,6 +363,14 @@ pub fn behind(job: &[u8], at: usize) -> usize
     at + (3 + wide(number(job, at + 1)))
 }
 
+// The place of a refusal in the field at a place.
+pub fn place_of(job: &[u8], at: usize, fault: Fault) -> usize
+    requires { ⌜ at ≤ length (now job) ⌝ }
+    ensures { λ r. ⌜ r ≡ at + offsetOf (lengthAt (now (job .entry)) at) (numberOf fault) ⌝ }
+{
+    at + offset_of(fault, wide(number(job, at + 1)))
+}
+
 // The thin reader: the job's slice and a position in it, over the cursor.
 pub struct Reader<'a> {
     pub job: &'a [u8],
@@ -335,7 +397,7 @@ fn units_of(field: Field) -> u16
 {
     match field {
         Field::Bad(_) => 0,
-        Field::Header(_, u) => u,
+        Field::Header(_, u, _) => u,
         Field::Noted(_) => 0,
         Field::Posed(_) => 0,
         Field::End => 0,

@@ -5,7 +5,7 @@ use Rattle.job_limits.specs.declared.Counts.{Counts}
 use Rattle.job_limits.specs.declared.Top.{Top}
 
 abbrev pub headOf : Top → Head
-headOf t = record { size = t .size; units = t .units }
+headOf t = record { size = t .size; units = t .units; sheeted = t .sheeted }
 
 abbrev pub momentOf : Counts → Moment
 momentOf c = record { records = c .records; differs = c .differs; questions = c .questions }

@@ -1,12 +1,13 @@
-// The limits of a field: at most 4,000 records, 500 pairs that must differ and 1,000 questions (7), N from 1 to 1,000 with U up to it (6) and tags below N (11, 12, 13).
-// Document 01, "What is lent, and each refusal", the second half of its order for a field, and document 02, No. 1 to 3. Here the tags of a job are compared with N.
+// The limits of a field: at most 4,000 records, 500 pairs that must differ and 1,000 questions (7), N from 1 to 1,000 with U up to it (6), tags below N (11, 12, 13) and sheets up to 9,999 (17).
+// Document 01, "What is lent, and each refusal", the second half of its order for a field, and document 02, No. 1 to 3 and 9. Here the tags of a job are compared with N.
 // Rests on meaning and job_field.
 ghost use mathlib.Core.Path.{_≡_};
 ghost use Prim.Native.Nat.{_+_};
 ghost use lib.ListN.{length};
 ghost use mathlib.Core.Bool.{_&&_};
 ghost use lib.Dec.{ltb, leb};
-ghost use Rattle.job_field.specs.Reading.{orElse, counted, sizeRight, sized, fieldTags, tagged, checked};
+ghost use Rattle.job_field.specs.Reading.{orElse, counted, sized, noteFiled, filed, fieldTags, tagged, checked};
+ghost use Rattle.meaning.specs.Limits.{mostTags};
 ghost use Rattle.job_field.specs.Answer.{numberOf, noteSaid, questionSaid, said};
 ghost use Rattle.job_field.specs.Items.{standsFor, pairsIn, noted, posed, after, tagsOfNote, tagsOfQuestion};
 ghost use Rattle.job_field.specs.Standing.{Few};
@@ -30,10 +31,13 @@ const MOST_QUESTIONS: u16 = meaning::MOST_QUESTIONS as u16;
 
 const MOST_TAGS: u16 = meaning::MOST_TAGS as u16;
 
-// What the first field said, N and U; both are 0 before it.
+const MOST_SHEET: u16 = meaning::MOST_SHEET as u16;
+
+// What the first field said, N and U, both 0 before it, and whether the job is of edition 2, whose records have sheets.
 pub struct Top {
     pub size: u16,
     pub units: u16,
+    pub sheeted: bool,
 }
 
 // What stands before a field: so many records, pairs that must differ, and questions.
@@ -83,7 +87,7 @@ fn is_counted(c: Counts, field: Field) -> bool
 {
     match field {
         Field::Bad(_) => true,
-        Field::Header(_, _) => true,
+        Field::Header(_, _, _) => true,
         Field::Noted(l) => note_fits(c, l),
         Field::Posed(_) => c.questions < MOST_QUESTIONS,
         Field::End => true,
@@ -92,7 +96,7 @@ fn is_counted(c: Counts, field: Field) -> bool
 
 // N is from 1 to 1,000, and U not above it.
 fn is_size(n: u16, u: u16) -> bool
-    ensures { λ r. ⌜ r ≡ sizeRight (record { size = n; units = u }) ⌝ }
+    ensures { λ r. ⌜ r ≡ (ltb 0 n && (leb n mostTags && leb u n)) ⌝ }
 {
     if 0 < n {
         if n <= MOST_TAGS { u <= n } else { false }
@@ -119,8 +123,8 @@ fn note_tags(l: Line) -> Tags
     ensures { λ r. ⌜ tagsIn r ≡ tagsOfNote (noteSaid l) ⌝ }
 {
     match l {
-        Line::Equation(a, b) => Tags::Two(a, b),
-        Line::Application(a, b, c) => Tags::Three(a, b, c),
+        Line::Equation(a, b, _) => Tags::Two(a, b),
+        Line::Application(a, b, c, _) => Tags::Three(a, b, c),
         Line::Differ(a, b) => Tags::Two(a, b),
     }
 }
@@ -142,7 +146,7 @@ fn tags_of(field: Field) -> Tags
 {
     match field {
         Field::Bad(_) => Tags::None,
-        Field::Header(_, _) => Tags::None,
+        Field::Header(_, _, _) => Tags::None,
         Field::Noted(l) => note_tags(l),
         Field::Posed(q) => question_tags(q),
         Field::End => Tags::None,
@@ -155,8 +159,31 @@ fn is_sized(field: Field) -> bool
 {
     match field {
         Field::Bad(_) => true,
-        Field::Header(n, u) => is_size(n, u),
+        Field::Header(n, u, _) => is_size(n, u),
         Field::Noted(_) => true,
+        Field::Posed(_) => true,
+        Field::End => true,
+    }
+}
+
+// A sheet is not above 9,999.
+fn note_filed(l: Line) -> bool
+    ensures { λ r. ⌜ r ≡ noteFiled (noteSaid l) ⌝ }
+{
+    match l {
+        Line::Equation(_, _, h) => h <= MOST_SHEET,
+        Line::Application(_, _, _, h) => h <= MOST_SHEET,
+        Line::Differ(_, _) => true,
+    }
+}
+
+fn is_filed(field: Field) -> bool
+    ensures { λ r. ⌜ r ≡ filed (said field) ⌝ }
+{
+    match field {
+        Field::Bad(_) => true,
+        Field::Header(_, _, _) => true,
+        Field::Noted(l) => note_filed(l),
         Field::Posed(_) => true,
         Field::End => true,
     }
@@ -198,11 +225,12 @@ fn tags_tested(size: u16, tags: Tags, field: Field) -> Field
     }
 }
 
-// A field with its count limit, N and U, and its tags tested, in this order.
+// A field with its count limit, N and U, its tags and its sheet tested, in this order.
 pub fn allowed(top: Top, c: Counts, field: Field) -> Field
     ensures { λ r. ⌜ said r ≡ checked (headOf top) (momentOf c) (said field) ⌝ }
 {
-    let tested = tags_tested(top.size, tags_of(field), field);
+    let kept = or_else(is_filed(field), Fault::Sheet, field);
+    let tested = tags_tested(top.size, tags_of(field), kept);
     let few = is_counted(c, field);
     let low = is_sized(field);
     or_else(few, Fault::TooMany, or_else(low, Fault::OutOfRange, tested))

@@ -3,6 +3,7 @@
 use Prim.Native.Nat.{ℕ}
 use native.Mathlib.Omega.{arith}
 use mathlib.Core.Path.{_≡_, refl, ap}
+use mathlib.Core.Bool.{Bool}
 use mathlib.Core.List.{List}
 use Rattle.job_field.specs.Items.{Reading, refused, accepted}
 use Rattle.job_field.specs.Reading.{reading}
@@ -12,12 +13,12 @@ use Rattle.job_field.specs.declared.Fault.{Fault}
 use Rattle.job_read.specs.Summary.{Summary, refusal, acceptance, told, summary}
 use Rattle.job_read.specs.declared.Answer.the-variants.{Refused, Accepted}
 
-pub told-accepted : (job : List ℕ) (N U R Q room : ℕ) → told (Accepted N U R Q room) ≡ summary (reading job) → Taken job (record { size = N; units = U }) R Q room
-told-accepted job N U R Q room e = go (reading job) refl e
+pub told-accepted : (job : List ℕ) (N U : ℕ) (E : Bool) (R Q room : ℕ) → told (Accepted N U E R Q room) ≡ summary (reading job) → Taken job (record { size = N; units = U; sheeted = E }) R Q room
+told-accepted job N U E R Q room e = go (reading job) refl e
   where
-    go : (X : Reading) → reading job ≡ X → acceptance (record { size = N; units = U }) R Q room ≡ summary X → Taken job (record { size = N; units = U }) R Q room
+    go : (X : Reading) → reading job ≡ X → acceptance (record { size = N; units = U; sheeted = E }) R Q room ≡ summary X → Taken job (record { size = N; units = U; sheeted = E }) R Q room
     go (refused n p) i e = let z : _≡_ {A = ℕ} 0 1 = cc in absurd (omega arith)
-    go (accepted M is) i e = let same : M ≡ record { size = N; units = U } = cc in record { items = is; reads = rw (← same) i; records = cc; questions = cc; needed = rw (← same) (ap roomOf e) }
+    go (accepted M is) i e = let same : M ≡ record { size = N; units = U; sheeted = E } = cc in record { items = is; reads = rw (← same) i; records = cc; questions = cc; needed = rw (← same) (ap roomOf e) }
       where
         roomOf : Summary → ℕ
         roomOf (refusal n p) = 0

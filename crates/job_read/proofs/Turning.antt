@@ -3,11 +3,12 @@
 use Prim.Native.Nat.{ℕ, zero, suc, _+_, _*_, _-_, _≤_, _<_, min}
 use native.Mathlib.Omega.{arith}
 use mathlib.Core.Path.{_≡_, refl, sym, _∙_, ap, subst}
+use mathlib.Core.Bool.{Bool, true, false, cond}
 use mathlib.Core.List.{List}
 use lib.ListN.{length}
 use Rattle.meaning.specs.Limits.{mostTags}
-use Rattle.job_field.specs.Items.{Head, Note, Moment, start, after, Question, ask, explain, broken, why, noted, posed, roomOf, Reading, refused, accepted, recordsOf, questionsOf, neededRoom}
-use Rattle.job_field.specs.Reading.{Field, bad, header, item, end, offsetOf, behindAt, fieldAt, checked, with, behind, onward, readFrom, reading}
+use Rattle.job_field.specs.Items.{Head, Note, Moment, start, after, Question, ask, explain, broken, why, noted, posed, sheetRoom, roomOf, Reading, refused, accepted, recordsOf, questionsOf, neededRoom}
+use Rattle.job_field.specs.Reading.{Field, bad, header, item, end, offsetOf, lengthAt, behindAt, fieldAt, checked, with, behind, onward, readFrom, reading}
 use Rattle.job_field.proofs.Items.{after-records, after-questions}
 use Rattle.job_field.proofs.Reading.{Sound, Passed, checked-passed, field-whole, Sized, read-sized, size-right}
 use Rattle.job_field.specs.Standing.{Few}
@@ -38,11 +39,18 @@ tally-question H b room q (accepted M is) h =
     let e : room + (roomOf H b q + neededRoom H (after (posed q) b) is) ≡ room + roomOf H b q + neededRoom H (after (posed q) b) is = omega arith in
     rw (h, ← after-questions b (posed q) is, e)
 
--- No question needs more room than 4,001 bytes.
-room-most : (H : Head) (b : Moment) (q : Question) → H .size ≤ mostTags → roomOf H b q ≤ 4 * mostTags + 1
+-- No question needs more room than 8,000 bytes.
+sheet-most : (H : Head) (b : Moment) → sheetRoom H b ≤ 3 + 2 * min (b .records) (2 * (H .size - 1))
+sheet-most H b = go (H .sheeted)
+  where
+    go : (e : Bool) → cond e (3 + 2 * min (b .records) (2 * (H .size - 1))) 0 ≤ 3 + 2 * min (b .records) (2 * (H .size - 1))
+    go true = omega arith
+    go false = omega arith
+
+room-most : (H : Head) (b : Moment) (q : Question) → H .size ≤ mostTags → roomOf H b q ≤ 8 * mostTags
 room-most H b (ask s t) h = omega arith
-room-most H b (explain s t) h = omega arith
-room-most H b broken h = omega arith
+room-most H b (explain s t) h = omega (arith, sheet-most H b)
+room-most H b broken h = omega (arith, sheet-most H b)
 room-most H b (why s t) h = omega arith
 
 -- One field more, by what it says.
@@ -54,7 +62,7 @@ unfolding readFrom
 step job s g e fuel = rw e
 
 module _ (job : List ℕ) (s : Seen) (h : Going job s) where
-  pub done-bad : (n : ℕ) (r : Answer) → Next job s (bad n) → told r ≡ refusal n (s .at + offsetOf n) → Turned job s (Done r)
+  pub done-bad : (n : ℕ) (r : Answer) → Next job s (bad n) → told r ≡ refusal n (s .at + offsetOf (lengthAt job (s .at)) n) → Turned job s (Done r)
   done-bad n r e i = done (λ fuel. step job s (bad n) e fuel ∙ sym i)
 
   pub done-end : (r : Answer) → Next job s end → told r ≡ tally (momentOf (s .counts)) (s .room) (behind job (headSeen s) (behindAt job (s .at))) → Turned job s (Done r)
@@ -88,7 +96,7 @@ module _ (job : List ℕ) (s : Seen) (h : Going job s) where
       let w : behindAt job (s .at) ≤ length job = there (item (posed q)) tt e in
       let m : Few (momentOf c) = subst Few (sym j) (after-few (momentOf (s .counts)) (posed q) (h .few) (p .count)) in
       let x : ℕ = roomOf (headSeen s) (momentOf (s .counts)) q in
-      let l : x ≤ 4 * mostTags + 1 = room-most (headSeen s) (momentOf (s .counts)) q (h .size) in
+      let l : x ≤ 8 * mostTags = room-most (headSeen s) (momentOf (s .counts)) q (h .size) in
       let y : c .questions ≡ s .counts .questions + 1 = ap (λ (x : Moment). x .questions) j in
       rw (i, z) (on {t = record { at = behindAt job (s .at); top = s .top; counts = c; room = s .room + x }} (omega arith) (record { within = w; size = h .size; few = m; room = omega (arith, h .room, l) })
       (λ fuel. step job s (item (posed q)) e fuel ∙ tally-question (headSeen s) (momentOf (s .counts)) (s .room) q (readFrom fuel job (headSeen s) (after (posed q) (momentOf (s .counts))) (behindAt job (s .at))) (read-sized fuel job (headSeen s) (after (posed q) (momentOf (s .counts))) (behindAt job (s .at)) (omega arith))
@@ -105,7 +113,7 @@ tally-none : (X : Reading) → summary X ≡ tally start 0 X
 tally-none (refused n p) = refl
 tally-none (accepted H is) = rw (none-plus (length (recordsOf is)), none-plus (questionsOf is), none-plus (neededRoom H start is))
 
-pub seeing-begin : (job : List ℕ) → Seeing job (record { at = 0; top = record { size = 0; units = 0 }; counts = record { records = 0; differs = 0; questions = 0 }; room = 0 })
+pub seeing-begin : (job : List ℕ) → Seeing job (record { at = 0; top = record { size = 0; units = 0; sheeted = false }; counts = record { records = 0; differs = 0; questions = 0 }; room = 0 })
 unfolding reading
 seeing-begin job = record {
   fuel = suc (length job);

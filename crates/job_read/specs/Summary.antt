@@ -20,4 +20,4 @@ summary (accepted H is) = acceptance H (length (recordsOf is)) (questionsOf is) 
 -- The summary of what the code answers, by document 01's numbers.
 abbrev pub told : Answer → Summary
 told (Refused f p) = refusal (numberOf f) p
-told (Accepted N U R Q room) = acceptance (record { size = N; units = U }) R Q room
+told (Accepted N U E R Q room) = acceptance (record { size = N; units = U; sheeted = E }) R Q room

@@ -32,7 +32,7 @@ pub record Going (job : List ℕ) (s : Seen) : Type 0 where
   pub within : s .at ≤ length job
   pub size : s .top .size ≤ mostTags
   pub few : Few (momentOf (s .counts))
-  pub room : s .room ≤ (4 * mostTags + 1) * s .counts .questions
+  pub room : s .room ≤ 8 * mostTags * s .counts .questions
 
 -- One field more: reading goes on behind it with the same outcome, or that outcome is known.
 pub data Turned (job : List ℕ) (s : Seen) : Turn → Type 0 where

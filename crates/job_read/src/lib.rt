@@ -1,9 +1,10 @@
-// A whole job read: it is accepted, or refused by number and place. Document 01, "What is lent, and each refusal", numbers 3 to 8, and document 02, No. 2,
-// numbers 11 to 13. Its fields come from the reader in job_field, and job_limits tests each. Rests on job_field and job_limits.
+// A whole job read: it is accepted, or refused by number and place. Document 01, "What is lent, and each refusal", numbers 3 to 8, and document 02, No. 2 and 9,
+// numbers 11 to 13 and 17. Its fields come from the reader in job_field, and job_limits tests each. Rests on job_field and job_limits.
 ghost use mathlib.Core.Path.{_≡_};
 ghost use Prim.Native.Nat.{_+_, _*_, _-_, _≤_, _<_, min};
 ghost use lib.ListN.{length};
 ghost use Rattle.meaning.specs.Limits.{mostTags};
+ghost use mathlib.Core.Bool.{cond};
 ghost use Rattle.job_field.specs.Items.{roomOf};
 ghost use Rattle.job_field.specs.Answer.{questionSaid};
 ghost use Rattle.job_field.specs.Reading.{behind as behindEnd, behindAt, reading};
@@ -14,7 +15,7 @@ use job_field::Fault;
 use job_field::Field;
 use job_field::Query;
 use job_field::behind;
-use job_field::offset_of;
+use job_field::place_of;
 use job_field::read;
 use job_limits::Counts;
 use job_limits::Top;
@@ -36,6 +37,7 @@ pub enum Answer {
     Accepted {
         size: u16,
         units: u16,
+        sheeted: bool,
         records: u16,
         questions: u16,
         room: usize,
@@ -77,18 +79,30 @@ fn most_numbers(size: u16, records: u16) -> usize
     }
 }
 
+// The room for the sheets of a reason of so many numbers, in edition 2 alone.
+fn sheet_room(sheeted: bool, most: usize) -> usize
+    requires { ⌜ most ≤ 2 * mostTags ⌝ }
+    ensures { λ r. ⌜ (r ≡ cond sheeted (3 + 2 * most) 0) × (r ≤ 3 + 2 * most) ⌝ }
+{
+    if sheeted { 3 + 2 * most } else { 0 }
+}
+
 // The room that a question needs at its moment.
 fn room_of(top: Top, c: Counts, q: Query) -> usize
     requires { ⌜ top .size ≤ mostTags ⌝ }
-    ensures { λ r. ⌜ (r ≡ roomOf (headOf top) (momentOf c) (questionSaid q)) × (r ≤ 4 * mostTags + 1) ⌝ }
+    ensures { λ r. ⌜ (r ≡ roomOf (headOf top) (momentOf c) (questionSaid q)) × (r ≤ 8 * mostTags) ⌝ }
 {
     let most = most_numbers(top.size, c.records);
+    let sheets = sheet_room(top.sheeted, most);
     let all = wide(top.size);
+    let explained = 3 + 2 * most + sheets;
+    let breached = 5 + 2 * most + sheets;
+    let doubted = 3 + 2 * all;
     match q {
         Query::Ask(_, _) => ROOM_OF_ASK,
-        Query::Explain(_, _) => 3 + 2 * most,
-        Query::Broken => 5 + 2 * most,
-        Query::Why(_, _) => 3 + 2 * all,
+        Query::Explain(_, _) => explained,
+        Query::Broken => breached,
+        Query::Why(_, _) => doubted,
     }
 }
 
@@ -103,6 +117,7 @@ fn ended(job: &[u8], s: Seen) -> Answer
         Answer::Accepted {
             size: s.top.size,
             units: s.top.units,
+            sheeted: s.top.sheeted,
             records: s.counts.records,
             questions: s.counts.questions,
             room: s.room + ROOM_OF_TOTALS,
@@ -128,11 +143,15 @@ fn advance(job: &[u8], s: Seen) -> Turn
     match field {
         Field::Bad(fault) => Turn::Done(Answer::Refused {
             fault,
-            place: at + offset_of(fault),
+            place: place_of(job, at, fault),
         }),
-        Field::Header(size, units) => Turn::On(Seen {
+        Field::Header(size, units, sheeted) => Turn::On(Seen {
             at: next,
-            top: Top { size, units },
+            top: Top {
+                size,
+                units,
+                sheeted,
+            },
             counts,
             room: s.room,
         }),
@@ -152,13 +171,17 @@ fn advance(job: &[u8], s: Seen) -> Turn
     }
 }
 
-// Reads a whole job. The refusals 3 to 8 and 11 to 13, or what is known of a job that is accepted.
+// Reads a whole job. The refusals 3 to 8, 11 to 13 and 17, or what is known of a job that is accepted.
 pub fn read_job(job: &[u8]) -> Answer
     ensures { λ r. ⌜ told r ≡ summary (reading (now (job .entry))) ⌝ }
 {
     let mut s = Seen {
         at: 0,
-        top: Top { size: 0, units: 0 },
+        top: Top {
+            size: 0,
+            units: 0,
+            sheeted: false,
+        },
         counts: Counts {
             records: 0,
             differs: 0,

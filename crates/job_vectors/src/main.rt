@@ -40,6 +40,7 @@ fn answered(bytes: &[u8]) -> Verdict {
         job_read::Answer::Accepted {
             size: _,
             units: _,
+            sheeted: _,
             records: _,
             questions: _,
             room: _,
@@ -77,6 +78,7 @@ fn known(name: &[u8], bytes: &[u8]) {
         job_read::Answer::Accepted {
             size: tags,
             units: _,
+            sheeted: _,
             records,
             questions,
             room,
@@ -328,7 +330,7 @@ fn begun(text: &mut [u8], room: &mut [u8]) {
 }
 
 fn main() {
-    let mut text_space = [0u8; 8192];
+    let mut text_space = [0u8; 12288];
     let text: &mut [u8] = &mut text_space;
     let mut room_space = [0u8; 50000];
     let room: &mut [u8] = &mut room_space;

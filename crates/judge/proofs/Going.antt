@@ -3,6 +3,7 @@
 use Prim.Native.Nat.{ℕ, suc, _+_, _-_, _≤_, _<_}
 use native.Mathlib.Omega.{arith}
 use mathlib.Core.Path.{_≡_, refl, sym, _∙_, ap, subst}
+use mathlib.Core.Bool.{Bool}
 use mathlib.Core.List.{List, [], _∷_, _++_, append-nil}
 use lib.ListN.{length, drop, getD, length-drop, length-append}
 use lib.Seq.{drop-cons}
@@ -10,9 +11,9 @@ use Rattle.meaning.specs.Following.{UpTo}
 use Rattle.meaning.specs.Totals.{Classes, Idles}
 use Rattle.meaning.proofs.Laws.{classes-one, idles-one, classes-most, idles-most}
 use Rattle.job_field.specs.Items.{Head, Matter, Moment, start, after, Note, standsFor, pairsIn, Question, tagsOfQuestion, Item, noted, posed, recordsOf, pairsOf}
-use Rattle.job_field.specs.Reading.{unitsOf, behindAt, fieldAt, bad, header, item, end, headIn, itemsIn, matterIn}
+use Rattle.job_field.specs.Reading.{unitsOf, sheetedIn, behindAt, fieldAt, bad, header, item, end, headIn, itemsIn, matterIn}
 use Rattle.job_field.specs.Standing.{Below, Job, Met}
-use Rattle.job_field.proofs.Standing.{stands-item, stands-end, stands-not-bad, stands-not-header, stands-within}
+use Rattle.job_field.proofs.Standing.{stands-item, stands-end, stands-not-bad, stands-not-header, stands-within, edition-first}
 use Rattle.table.specs.Map.{recordsIn, Within}
 use Rattle.table.specs.Past.{Past}
 use Rattle.table.specs.Places.{LIST, behindJoins, fromTo, scratch}
@@ -20,19 +21,23 @@ use Rattle.pairs.specs.Marks.{Marking, Noted}
 use Rattle.pairs.specs.Breaking.{Breaking, Guarded}
 use Rattle.pairs.proofs.Breaking.{guarded-begin, guarded-kept, guarded-note, guarded-room, breaking-here}
 use Rattle.moment.proofs.Kept.{kept-records, kept-past}
-use Rattle.report.specs.Report.{numbers, field, Answers, Totalled, total, Sound, totals, passed, answered, Known}
-use Rattle.report.specs.Fault.{Stands, FaultAt, past, behind, wrong as faulty, closing, spare}
+use Rattle.moment.specs.declared.Question.{Question as Asked}
+use Rattle.moment.specs.Posed.{headAsked, Posed}
+use Rattle.judge_explain.specs.Right.{Explaining}
+use Rattle.report.specs.Report.{numbers, field, Reasoned, Filed, Totalled, total, Sound, totals, passed, answered, Known}
+use Rattle.report.specs.Fault.{Stands, FaultAt, past, behind, wrong as faulty, astray as lost, closing, spare}
 use Rattle.report.proofs.Fits.{totalled-length}
 use Rattle.report_read.proofs.Read.{holds-room}
 use Rattle.judge.specs.declared.Closed.{Closed}
 use Rattle.judge.specs.declared.Turn.{Turn}
 use Rattle.judge.specs.declared.Judgement.{Judgement}
 use Rattle.answer_ask.specs.declared.Passed.{Passed}
-use Rattle.answer_ask.specs.declared.Passed.the-variants.{To, Wrong}
+use Rattle.answer_ask.specs.declared.Passed.the-variants.{To, Wrong, Astray}
 use Rattle.judge.specs.declared.Stand.{Stand}
 use Rattle.judge.specs.declared.Turn.the-variants.{On, Done}
 use Rattle.judge.specs.Judging.{Judgeable, Verdict, sound, fault}
-use Rattle.answer_ask.specs.Right.{RightAt, to, wrong}
+use Rattle.report_read.specs.Read.{Holds}
+use Rattle.judge_sheets.specs.Passing.{PassedAt, to, wrong, astray}
 use Rattle.judge.specs.Testing.{Testing, Tested}
 use Rattle.judge.specs.Ended.{headOf, Ended}
 use Rattle.judge.specs.Ended as r
@@ -42,6 +47,10 @@ use Rattle.answer_ask.proofs.Right.{found}
 -- What the table knows of the job at a moment.
 pub known-here : {job w : List ℕ} {H : Head} {len joins before differs : ℕ} → Breaking job w H len joins before differs → (b : Moment) → b .records ≡ before → Known (matterIn job) b H (recordsIn len w) before
 known-here B b e = record { head = B .head; records = sym (B .records); before = e }
+
+-- An explain at its moment.
+pub explaining-here : {job w : List ℕ} {H : Head} {len joins before differs : ℕ} {q : Asked} → Breaking job w H len joins before differs → Posed w q → headAsked q ≡ H → q .len ≡ len → Explaining job w q
+explaining-here B p e n = record { stands = B .stands; head = B .head ∙ sym e; records = rw n (B .records); posed = p }
 
 -- The table's data are kept by what writes only from the list on.
 pub judgeable-kept : {job w w′ : List ℕ} {N len joins idle e : ℕ} → Within (fromTo (LIST .at) e) w w′ → Judgeable job w N len joins idle → Judgeable job w′ N len joins idle
@@ -90,6 +99,13 @@ record Over (job report : List ℕ) (s : Stand) (b : Moment) (is : List Item) : 
 over : {job report w : List ℕ} {s : Stand} (g : Going job report w s) (is : List Item) → g .left ≡ is → Over job report s (g .moment) is
 over {job} {report} {w} {s} g is e = subst (λ (x : List Item). Over job report s (g .moment) x) e (record { counted = g .counted; within = g .within; sound = g .sound; fault = g .fault })
 
+-- A right reason stands at a place, and behind it not its sheets.
+fault-astray : {M : Matter} {b : Moment} {q : Question} {L f : List ℕ} {is : List Item} {p : ℕ} (report : List ℕ) (at : ℕ) → Reasoned M b q L f → Holds report at f → at + length f ≡ p → (Stands (Filed M L) (drop p report) → ⊥)
+    → FaultAt M b (posed q ∷ is) at (drop at report) p
+fault-astray {M} {b} {q} {L} {f} {is} {p} report at r h e n =
+    let k : Stands (Filed M L) (drop (at + length f) report) → ⊥ = rw e n in
+    subst (λ (x : ℕ). FaultAt M b (posed q ∷ is) at (drop at report) x) e (fault-moved refl (sym h) (lost r k))
+
 module _ {job report w : List ℕ} {s : Stand} (g : Going job report w s) where
   met : (i : Item) → fieldAt job (s .at) ≡ item i → Met job (headIn job .size) (s .at) i (g .left)
   met i e = stands-item job (headIn job .size) (s .at) i (g .left) (g .stands) e
@@ -126,11 +142,11 @@ module _ {job report w : List ℕ} {s : Stand} (g : Going job report w s) where
       record { past = p; units = rw z at (j .units); tags = rw z at (y .tags); room = guarded-room m (pairsOf (y .rest)) j (rw (y .first) at (g .guarded)) }
 
   -- A question whose field is right, or wrong.
-  going-question : (q : Question) (n : ℕ) {w′ : List ℕ} → Within scratch w w′ → n ≡ behindAt job (s .at) → fieldAt job (s .at) ≡ item (posed q) → (a : Passed) → RightAt (Answers (matterIn job) (g .moment) q) report (s .place) a
+  going-question : (q : Question) (n : ℕ) {w′ : List ℕ} → Within scratch w w′ → n ≡ behindAt job (s .at) → fieldAt job (s .at) ≡ item (posed q) → (a : Passed) → PassedAt (matterIn job) (g .moment) q report (s .place) a
       → Turned job report w′ s (turnBehind a n (s .place) (s .before) (s .differs))
   going-question q n {w′} v k e (To p) h = go h refl
     where
-      go : {a : Passed} → RightAt (Answers (matterIn job) (g .moment) q) report (s .place) a → a ≡ To p → Turned job report w′ s (turnBehind (To p) n (s .place) (s .before) (s .differs))
+      go : {a : Passed} → PassedAt (matterIn job) (g .moment) q report (s .place) a → a ≡ To p → Turned job report w′ s (turnBehind (To p) n (s .place) (s .before) (s .differs))
       go (to {f = f} {p = p′} a h x) z =
           let m = met (posed q) e in
           let o = over g (posed q ∷ m .rest) (m .first) in
@@ -150,12 +166,24 @@ module _ {job report w : List ℕ} {s : Stand} (g : Going job report w s) where
             sound = λ t. o .sound (sound-moved bs (answered a t));
             fault = λ r t. o .fault r (fault-moved refl bs (behind a (fault-moved (sym y) refl t)));
           })
-      go (wrong h) z = let y : _≡_ {A = ℕ} 0 1 = cc in absurd (omega arith)
+      go (wrong h l) z = let y : _≡_ {A = ℕ} 0 1 = cc in absurd (omega arith)
+      go (astray r h x n) z = let y : _≡_ {A = ℕ} 0 1 = cc in absurd (omega arith)
   going-question q n {w′} v k e Wrong h = go h refl
     where
-      go : {a : Passed} → RightAt (Answers (matterIn job) (g .moment) q) report (s .place) a → a ≡ Wrong → Turned job report w′ s (turnBehind Wrong n (s .place) (s .before) (s .differs))
+      go : {a : Passed} → PassedAt (matterIn job) (g .moment) q report (s .place) a → a ≡ Wrong → Turned job report w′ s (turnBehind Wrong n (s .place) (s .before) (s .differs))
       go (to a h x) z = let y : _≡_ {A = ℕ} 0 1 = cc in absurd (omega arith)
-      go (wrong h) z = let m = met (posed q) e in done (fault (over g (posed q ∷ m .rest) (m .first) .fault (s .place) (faulty h)))
+      go (wrong h l) z = let m = met (posed q) e in done (fault (over g (posed q ∷ m .rest) (m .first) .fault (s .place) (faulty h l)))
+      go (astray r h x n) z = let y : _≡_ {A = ℕ} 0 1 = cc in absurd (omega arith)
+  going-question q n {w′} v k e (Astray p) h = go h refl
+    where
+      go : {a : Passed} → PassedAt (matterIn job) (g .moment) q report (s .place) a → a ≡ Astray p → Turned job report w′ s (turnBehind (Astray p) n (s .place) (s .before) (s .differs))
+      go (to a h x) z = let y : _≡_ {A = ℕ} 0 1 = cc in absurd (omega arith)
+      go (wrong h l) z = let y : _≡_ {A = ℕ} 0 1 = cc in absurd (omega arith)
+      go (astray {f = f} {p = p′} r h x m) z =
+          let i = met (posed q) e in
+          let y : s .place + length f ≡ p = cc in
+          let j : p′ ≡ p = cc in
+          done (fault (over g (posed q ∷ i .rest) (i .first) .fault p (fault-astray report (s .place) r h y (rw j at m))))
 
   -- No other field stands among the items.
   pub going-bad : (n : ℕ) → fieldAt job (s .at) ≡ bad n → ⊥
@@ -230,9 +258,12 @@ pub turned-done : {job report w : List ℕ} {s : Stand} {a : Judgement} {r : Tur
 turned-done (on l g) e = let z : _≡_ {A = ℕ} 0 1 = cc in absurd (omega arith)
 turned-done {a = a} (done {answer = b} v) e = let z : b ≡ a = cc in rw (← z) v
 
--- U is read off the first field.
-pub head-read : {job w : List ℕ} {N len joins idle : ℕ} → Judgeable job w N len joins idle → (u : ℕ) → u ≡ unitsOf (fieldAt job 0) → headIn job ≡ record { size = N; units = u }
-head-read {job} J u e = let z : u ≡ headIn job .units = e ∙ ap unitsOf (J .accepted .first) in rw (z, ← J .size) refl
+-- U is read off the first field, and the edition off the first byte.
+pub head-read : {job w : List ℕ} {N len joins idle : ℕ} → Judgeable job w N len joins idle → (u : ℕ) (v : Bool) → u ≡ unitsOf (fieldAt job 0) → v ≡ sheetedIn job → headIn job ≡ record { size = N; units = u; sheeted = v }
+head-read {job} J u v e f =
+    let z : u ≡ headIn job .units = e ∙ ap unitsOf (J .accepted .first) in
+    let y : v ≡ headIn job .sheeted = f ∙ sym (edition-first job (headIn job) (J .accepted .first)) in
+    rw (z, y, ← J .size) refl
 
 -- What is known at each turn of the loop.
 pub record Judging (job report w₀ w : List ℕ) (c : Closed) (s : Stand) : Type 0 where

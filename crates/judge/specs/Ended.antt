@@ -16,15 +16,15 @@ use Rattle.judge.specs.declared.Judgement.the-variants as j
 
 -- What the first field of the job said, as the code holds it.
 abbrev pub headOf : Closed → Head
-headOf c = record { size = c .size; units = c .unit }
+headOf c = record { size = c .size; units = c .unit; sheeted = c .sheeted }
 
 -- A question at its moment, among what the closure left.
 abbrev pub question : Closed → ℕ → Tag → Tag → Question
-question c before s t = record { size = c .size; unit = c .unit; len = c .len; joins = c .joins; before = before; s = s; t = t }
+question c before s t = record { size = c .size; unit = c .unit; sheeted = c .sheeted; len = c .len; joins = c .joins; before = before; s = s; t = t }
 
 -- What the closure left, as the pairs are marked by it.
 abbrev pub leftOf : Closed → Left
-leftOf c = record { size = c .size; unit = c .unit; len = c .len; joins = c .joins }
+leftOf c = record { size = c .size; unit = c .unit; sheeted = c .sheeted; len = c .len; joins = c .joins }
 
 -- The end of the report: these totals and nothing behind them; or a byte behind them; or not these totals.
 pub data Ended (report : List ℕ) (at classes idle : ℕ) : Judgement → Type 0 where

@@ -14,7 +14,7 @@ use Rattle.report.specs.Fault.{FaultAt}
 use Rattle.judge.specs.declared.Judgement.{Judgement}
 use Rattle.judge.specs.declared.Judgement.the-variants.{Fault}
 use Rattle.answer_ask.specs.declared.Passed.{Passed}
-use Rattle.answer_ask.specs.declared.Passed.the-variants.{To, Wrong}
+use Rattle.answer_ask.specs.declared.Passed.the-variants.{To, Wrong, Astray}
 use Rattle.judge.specs.declared.Stand.{Stand}
 use Rattle.judge.specs.declared.Turn.{Turn}
 use Rattle.judge.specs.declared.Turn.the-variants.{On, Done}
@@ -36,10 +36,12 @@ pub record Going (job report w : List ℕ) (s : Stand) : Type 0 where
   pub fault : (p : ℕ) → FaultAt (matterIn job) moment left (s .place) (drop (s .place) report) p
       → FaultAt (matterIn job) start (itemsIn job) 0 report p
 
--- Behind a question: at the next item of the job, where its field is right, and at fault at the field's first byte, where it is not.
+-- Behind a question: at the next item of the job, where its answer is right, and at fault where it is not: at the field's first byte, or where the sheets of a
+-- right reason should stand.
 abbrev pub behind : Passed → ℕ → ℕ → ℕ → ℕ → Turn
 behind (To p) at place before differs = On (record { at = at; place = p; before = before; differs = differs })
 behind Wrong at place before differs = Done (Fault place)
+behind (Astray p) at place before differs = Done (Fault p)
 
 -- One item more: the judge goes on behind it, or has its answer.
 pub data Turned (job report w : List ℕ) (s : Stand) : Turn → Type 0 where

@@ -1,5 +1,5 @@
 // The judge of a report against its job, over the table that the closure left. Document 01, "What is lent, and each refusal": the
-// report fields are compared in order, and the judge stops at the first that is at fault. Document 02, No. 1. Rests on job_field, report_read, moment, pairs,
+// report fields are compared in order, and the judge stops at the first that is at fault. Document 02, No. 1 and 9. Rests on job_field, report_read, moment, pairs,
 // answer_ask, judge_explain and judge_broken.
 ghost use mathlib.Core.Path.{_≡_};
 ghost use Prim.Native.Nat.{_≤_, _<_};
@@ -17,6 +17,7 @@ use job_field::Field;
 use job_field::Query;
 use job_field::behind;
 use job_field::pairs_in;
+use job_field::sheeted;
 use job_field::stands_for;
 use job_field::units;
 use job_field::wide;
@@ -33,10 +34,11 @@ pub enum Judgement {
     Fault(usize),
 }
 
-// What is judged by beside the table: N and U, the numbers of all records and of all joins, and of idle records.
+// What is judged by beside the table: N and U, whether records have sheets, the numbers of all records and of all joins, and of idle records.
 pub struct Closed {
     pub size: usize,
     pub unit: usize,
+    pub sheeted: bool,
     pub len: usize,
     pub joins: usize,
     pub idle: usize,
@@ -63,6 +65,7 @@ pub fn posed(closed: Closed, before: usize, s: Tag, t: Tag) -> Question
     Question {
         size: closed.size,
         unit: closed.unit,
+        sheeted: closed.sheeted,
         len: closed.len,
         joins: closed.joins,
         before,
@@ -99,6 +102,7 @@ pub fn onward(passed: Passed, at: usize, place: usize, before: usize, differs: u
             differs,
         }),
         Passed::Wrong => Turn::Done(Judgement::Fault(place)),
+        Passed::Astray(p) => Turn::Done(Judgement::Fault(p)),
     }
 }
 
@@ -109,6 +113,7 @@ pub fn left(closed: Closed) -> Left
     Left {
         size: closed.size,
         unit: closed.unit,
+        sheeted: closed.sheeted,
         len: closed.len,
         joins: closed.joins,
     }
@@ -130,7 +135,7 @@ fn tested(
 {
     match q {
         Query::Ask(a, b) => led(report, place, work, posed(closed, before, a, b)),
-        Query::Explain(a, b) => explained(report, place, work, posed(closed, before, a, b)),
+        Query::Explain(a, b) => explained(job, report, place, work, posed(closed, before, a, b)),
         Query::Broken => checked(job, report, place, work, left(closed), before, differs),
         Query::Why(a, b) => doubted(report, place, work, posed(closed, before, a, b)),
     }
@@ -148,7 +153,7 @@ fn advance(job: &[u8], report: &[u8], work: &mut [u16], closed: Closed, s: Stand
     let next = behind(job, at);
     match job_field::read(job, at) {
         Field::Bad(_) => Turn::Done(Judgement::Fault(place)),
-        Field::Header(_, _) => Turn::Done(Judgement::Fault(place)),
+        Field::Header(_, _, _) => Turn::Done(Judgement::Fault(place)),
         Field::Noted(l) => {
             mark_note(l, work, left(closed), differs);
             Turn::On(Stand {
@@ -183,9 +188,11 @@ pub fn judge(
     ensures { λ r. ⌜ Judged (now (job .entry)) (now (report .entry)) (now (work .entry)) (now (work .exit)) r ⌝ }
 {
     let unit = wide(units(job));
+    let edition = sheeted(job);
     let closed = Closed {
         size,
         unit,
+        sheeted: edition,
         len,
         joins,
         idle,

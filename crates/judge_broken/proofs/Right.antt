@@ -1,6 +1,6 @@
 -- A right field for a 06 is found whole where it stands, so that its kind, the number of the pair and the reason behind it decide whether one stands there.
 -- Assumes nothing.
-use Prim.Native.Nat.{ℕ, _+_, _*_, _-_, _≤_, _<_}
+use Prim.Native.Nat.{ℕ, suc, _+_, _*_, _-_, _≤_, _<_}
 use native.Mathlib.Omega.{arith}
 use mathlib.Core.Path.{_≡_, refl, sym, _∙_, ap, subst}
 use mathlib.Core.Logic.{_≢_}
@@ -11,24 +11,32 @@ use Rattle.meaning.specs.Following.{Rec}
 use Rattle.meaning.specs.Reasons.{Reason}
 use Rattle.job_field.specs.Items.{Head, Moment, recordsOf, pairsOf, broken}
 use Rattle.job_field.specs.Reading.{headIn, itemsIn, matterIn}
-use Rattle.table.specs.Map.{recordsIn, sinceOf, Within}
+use Rattle.table.specs.Map.{recAt, recordsIn, sinceOf, Within}
 use Rattle.table.specs.Places.{scratch}
-use Rattle.table.proofs.Frame.{within-refl}
+use Rattle.table.proofs.Frame.{within-refl, within-trans, length-gather}
 use Rattle.report.specs.Broken.{pairNo, Earliest, Unbroken}
-use Rattle.report.specs.Report.{two, numbers, field, Answers, breached, intact}
+use Rattle.report.specs.Report as told
+use Rattle.report.specs.Report.{two, numbers, field}
 use Rattle.report.specs.Fault.{Stands}
+use Rattle.meaning.proofs.Laws.{reason-short}
+use Rattle.report.proofs.Known.{stands-map}
 use Rattle.report.proofs.Broken.{earliest-one, earliest-some}
 use Rattle.report.proofs.Bytes.{length-two, length-numbers, length-field, field-one}
 use Rattle.report_read.specs.Read.{Holds, FrontAt, whole, none}
 use Rattle.report_read.specs.declared.Front.{Front}
 use Rattle.report_read.specs.declared.Front.the-variants.{Cut}
-use Rattle.report_read.proofs.Read.{holds-one, holds-front, holds-behind, holds-both, number-held, field-body}
+use Rattle.report_read.proofs.Read.{holds-one, holds-front, holds-behind, holds-both, number-held, field-body, field-room}
+use Rattle.report_read.proofs.Right as front
 use Rattle.moment.specs.declared.Question.{Question}
 use Rattle.moment.specs.Posed.{Deciding}
 use Rattle.answer_ask.specs.declared.Passed.{Passed}
 use Rattle.answer_ask.specs.declared.Passed.the-variants.{To, Wrong}
 use Rattle.answer_ask.specs.Right.{RightAt, to, wrong}
-use Rattle.answer_ask.proofs.Right.{found, right-same}
+use Rattle.answer_ask.proofs.Right.{found}
+use Rattle.judge_sheets.specs.Passing as pass
+use Rattle.judge_sheets.specs.Passing.{PassedAt}
+use Rattle.judge_sheets.specs.Behind.{Behind, Reasoning, Turned}
+use Rattle.judge_sheets.proofs.Passing.{reasonless, reason-passed}
 use Rattle.judge_explain.specs.Right.{Reasoned, Known}
 use Rattle.judge_explain.proofs.Right.{Whole}
 use Rattle.pairs.specs.declared.Differing.{Differing}
@@ -116,14 +124,21 @@ intact-not {report} {at} n = wrong (λ x. let r = found report at x in n (rw (r 
 -- What is right by the table is right for the job.
 module _ {job w : List ℕ} {H : Head} {len joins before differs : ℕ} (B : Breaking job w H len joins before differs) where
   pub checked-none : {report : List ℕ} {at : ℕ} {answer : Passed} → Unbroken (recordsOf (itemsIn job)) before (pairsOf (itemsIn job)) differs → RightAt IntactField report at answer → Checked job report w w before differs at answer
-  checked-none u h = record { kept = within-refl w; right = λ b x y. right-same (λ f e. rw e (intact (rw (x, y) u))) (λ f a. only x y a) h }
+  checked-none {report} {at} u h = record { kept = within-refl w; right = λ b x y. go b x y h }
     where
-      only : {b : Moment} {f : List ℕ} → b .records ≡ before → b .differs ≡ differs → Answers (matterIn job) b broken f → f ≡ field 135 []
-      only x y (breached e r) = absurd (earliest-some (rw (x, y) at e) u)
-      only x y (intact v) = refl
+      no-breach : (b : Moment) → b .records ≡ before → b .differs ≡ differs → {L f : List ℕ} → told.Reasoned (matterIn job) b broken L f → ⊥
+      no-breach b x y (told.breached e r) = earliest-some (rw (x, y) at e) u
+
+      only : (b : Moment) → b .records ≡ before → b .differs ≡ differs → {f : List ℕ} → told.Answers (matterIn job) b broken f → f ≡ field 135 []
+      only b x y (told.reasoned r g) = absurd (no-breach b x y r)
+      only b x y (told.intact v) = refl
+
+      go : (b : Moment) → b .records ≡ before → b .differs ≡ differs → {a : Passed} → RightAt IntactField report at a → PassedAt (matterIn job) b broken report at a
+      go b x y (to {f = f} {p = p} e g i) = pass.to {f = f} {p = p} (rw e (told.intact (rw (x, y) u))) g i
+      go b x y (wrong n) = pass.wrong (λ z. n (stands-map (λ f a. only b x y a) z)) (λ L z. reasonless (λ K f r. no-breach b x y r) z)
 
   module _ {k : ℕ} {p : Differing} {q : Question} (s : Scanned w differs before k) (e : Earliest (recordsOf (itemsIn job)) before (pairsOf (itemsIn job)) differs k) (f : Found job k p)
-      (z : q ≡ record { size = H .size; unit = H .units; len = len; joins = joins; before = before; s = p .s; t = p .t }) where
+      (z : q ≡ record { size = H .size; unit = H .units; sheeted = H .sheeted; len = len; joins = joins; before = before; s = p .s; t = p .t }) where
     pub breach-known : {first : ℕ} → first ≡ sinceOf w (k - 1) → Known w q first
     breach-known i =
         let r = breaking-first B s (e .number) in
@@ -134,17 +149,55 @@ module _ {job w : List ℕ} {H : Head} {len joins before differs : ℕ} (B : Bre
           first = rw (B .records) (rw (f .is) at (r .1));
         })
 
-    pub checked-some : {w′ report : List ℕ} {at : ℕ} {answer : Passed} → Breached w w′ report at q k answer → Checked job report w w′ before differs at answer
-    checked-some h = record { kept = h .kept; right = λ b x y. right-same (λ g o. there x y o) (λ g a. back x y a) (rw z at (h .right)) }
+    abbrev Q : Question
+    Q = record { size = H .size; unit = H .units; sheeted = H .sheeted; len = len; joins = joins; before = before; s = p .s; t = p .t }
+
+    -- A reason that was found is one of the job's records, and its sheets can be looked for.
+    early : before ≤ length (recordsOf (itemsIn job))
+    early = omega (arith, B .passed, ap length (B .records), length-gather (λ i. recAt w (suc i)) len)
+
+    reason-behind : {report w′ L : List ℕ} {at end : ℕ} → Within scratch w w′ → at ≤ length report → Reason (H .size) (recordsIn len w) before (p .s .0) (p .t .0) L → Holds report at (field 134 (numbers (k ∷ L)))
+        → end ≡ at + length (field 134 (numbers (k ∷ L))) → Behind job report w′ (at + 5) end
+    reason-behind {report} {w′} {L} {at} {end} g l r h i = record {
+      stands = B .stands;
+      long = omega (arith, B .past .loaded .long, g .size);
+      list = L;
+      all = omega (arith, length-field 134 (numbers (k ∷ L)), length-numbers (k ∷ L));
+      holds = list-at report at L h;
+      within = omega (arith, field-room report at 134 (numbers (k ∷ L)) l h, length-field 134 (numbers (k ∷ L)));
+      few = omega (arith, reason-short r, B .past .loaded .few);
+      rising = r .rising;
+      there = λ n m. omega (arith, r .stand n m, early);
+    }
       where
-        Q : Question
-        Q = record { size = H .size; unit = H .units; len = len; joins = joins; before = before; s = p .s; t = p .t }
+        list-at : (report : List ℕ) (at : ℕ) (L : List ℕ) → Holds report at (field 134 (numbers (k ∷ L))) → Holds report (at + 5) (numbers L)
+        list-at report at L h = let o : at + 3 + 2 ≡ at + 5 = omega arith in subst (λ (n : ℕ). Holds report n (numbers L)) o (list-behind report (at + 3) k L (field-body report at 134 (numbers (k ∷ L)) h) .1)
 
-        there : {b : Moment} {g : List ℕ} → b .records ≡ before → b .differs ≡ differs → BreachField w Q k g → Answers (matterIn job) b broken g
-        there x y (of {L = L} r) = breached {k = k} {L = L} (rw (x, y) e) (rw (x, B .head, f .is) (rw (B .records) at r))
+    pub reasoning-there : {report w′ : List ℕ} {at : ℕ} {passed : Passed} → at ≤ length report → Breached w w′ report at q k passed → Reasoning job report w′ (H .sheeted) at 5 passed
+    reasoning-there {report} {w′} {at} {passed} l g = record { edition = ap (λ (h : Head). h .sheeted) (B .head); behind = λ end i. go (rw z at (g .right)) i }
+      where
+        go : {a : Passed} {end : ℕ} → RightAt (BreachField w Q k) report at a → a ≡ To end → Behind job report w′ (at + 5) end
+        go {a} {end} (to {p = p′} (of r) h i) j = let y : p′ ≡ end = cc in reason-behind (g .kept) l r h (sym y ∙ i)
+        go (wrong n) j = let y : _≡_ {A = ℕ} 0 1 = cc in absurd (omega arith)
 
-        back : {b : Moment} {g : List ℕ} → b .records ≡ before → b .differs ≡ differs → Answers (matterIn job) b broken g → BreachField w Q k g
-        back x y (breached {k = k′} {L = L} e′ r) =
-            let i : k′ ≡ k = earliest-one (rw (x, y) at e′) e in
-            rw i (of {L = L} (rw (B .records) (rw (x, B .head, i, f .is) at r)))
-        back x y (intact u) = absurd (earliest-some e (rw (x, y) at u))
+    module _ (b : Moment) (x : b .records ≡ before) (y : b .differs ≡ differs) where
+      breach-there : {L : List ℕ} → Reason (H .size) (recordsIn len w) before (p .s .0) (p .t .0) L → told.Reasoned (matterIn job) b broken L (field 134 (numbers (k ∷ L)))
+      breach-there {L} r = told.breached {k = k} {L = L} (rw (x, y) e) (rw (x, B .head, f .is) (rw (B .records) at r))
+
+      back : {L g : List ℕ} → told.Reasoned (matterIn job) b broken L g → BreachField w Q k g
+      back (told.breached {k = k′} {L = L} e′ r) =
+          let i : k′ ≡ k = earliest-one (rw (x, y) at e′) e in
+          rw i (of {L = L} (rw (B .records) (rw (x, B .head, i, f .is) at r)))
+
+      no-answer : {report : List ℕ} {at : ℕ} → (Stands (BreachField w Q k) (drop at report) → ⊥) → PassedAt (matterIn job) b broken report at Wrong
+      no-answer n = pass.wrong (λ v. let r = front.broken-right {M = matterIn job} {b = b} {k = k} (rw (x, y) e) v in n (stands-map (λ g o. back o) (r .1))) (λ L v. n (stands-map (λ g o. back o) v))
+
+      breach-answer : {report w₁ w₂ : List ℕ} {at : ℕ} {passed answer : Passed} → RightAt (BreachField w Q k) report at passed → Turned job report w₁ w₂ (at + 5) passed answer → PassedAt (matterIn job) b broken report at answer
+      breach-answer {report} {at = at} (to {p = p′} (of {L = L} r) h i) t =
+          let o : at + 3 + 2 ≡ at + 5 = omega arith in
+          reason-passed (breach-there r) h i
+          (t .some p′ refl L (omega (arith, length-field 134 (numbers (k ∷ L)), length-numbers (k ∷ L))) (subst (λ (n : ℕ). Holds report n (numbers L)) o (list-behind report (at + 3) k L (field-body report at 134 (numbers (k ∷ L)) h) .1)))
+      breach-answer {report} {at = at} (wrong n) t = subst (λ (a : Passed). PassedAt (matterIn job) b broken report at a) (sym (t .none refl)) (no-answer n)
+
+    pub checked-some : {w₁ w₂ report : List ℕ} {at : ℕ} {passed answer : Passed} → Breached w w₁ report at q k passed → Turned job report w₁ w₂ (at + 5) passed answer → Checked job report w w₂ before differs at answer
+    checked-some h t = record { kept = within-trans (h .kept) (t .kept); right = λ b x y. breach-answer b x y (rw z at (h .right)) t }

@@ -9,11 +9,12 @@ use Rattle.job_field.specs.Items.{Moment, broken}
 use Rattle.job_field.specs.Reading.{matterIn}
 use Rattle.table.specs.Map.{recordsIn, Within}
 use Rattle.table.specs.Places.{scratch}
-use Rattle.report.specs.Report.{numbers, field, Answers}
+use Rattle.report.specs.Report.{numbers, field}
 use Rattle.report_read.specs.Read.{Holds}
 use Rattle.moment.specs.declared.Question.{Question}
 use Rattle.answer_ask.specs.declared.Passed.{Passed}
 use Rattle.answer_ask.specs.Right.{RightAt}
+use Rattle.judge_sheets.specs.Passing.{PassedAt}
 
 -- So many bytes at the place are the number of a pair and the numbers of a reason.
 pub record NumberedReason (w report : List ℕ) (at bytes : ℕ) (q : Question) (k : ℕ) : Type 0 where
@@ -37,4 +38,4 @@ pub record Breached (w w′ report : List ℕ) (at : ℕ) (q : Question) (k : �
 -- A 06 was looked at: at the moment with so many records and so many pairs before it a right field stands at the place, or none does.
 pub record Checked (job report w w′ : List ℕ) (before differs at : ℕ) (answer : Passed) : Type 0 where
   pub kept : Within scratch w w′
-  pub right : (b : Moment) → b .records ≡ before → b .differs ≡ differs → RightAt (Answers (matterIn job) b broken) report at answer
+  pub right : (b : Moment) → b .records ≡ before → b .differs ≡ differs → PassedAt (matterIn job) b broken report at answer

@@ -1,5 +1,5 @@
-// Whether the right answer to a question 06 stands at a place of a report, over the table that the closure left. Document 02, No. 1. Rests on pairs, moment,
-// answer_ask, report, report_read and judge_explain.
+// Whether the right answer to a question 06 stands at a place of a report, over the table that the closure left, with the sheets of its reason in edition 2.
+// Document 02, No. 1 and 9. Rests on pairs, moment, answer_ask, judge_sheets, report, report_read and judge_explain.
 ghost use mathlib.Core.Path.{_≡_};
 ghost use Prim.Native.Nat.{_+_, _≤_, _<_};
 ghost use lib.ListN.{length};
@@ -10,6 +10,7 @@ ghost use Rattle.judge_broken.specs.Checked.{NumberedReason, IntactField
 ghost use Rattle.answer_ask.specs.Right.{RightAt};
 use answer_ask::Passed;
 use judge_explain::is_reason;
+use judge_sheets::sheets_behind;
 use meaning::Tag;
 use moment::Closed;
 use moment::Question;
@@ -90,11 +91,12 @@ fn intact(report: &[u8], at: usize) -> Passed
 
 // The question why the tags of a pair are equal.
 fn asked(c: Closed, before: usize, s: Tag, t: Tag) -> Question
-    ensures { λ q. ⌜ q ≡ record { size = c .size; unit = c .unit; len = c .len; joins = c .joins; before = before; s = s; t = t } ⌝ }
+    ensures { λ q. ⌜ q ≡ record { size = c .size; unit = c .unit; sheeted = c .sheeted; len = c .len; joins = c .joins; before = before; s = s; t = t } ⌝ }
 {
     Question {
         size: c.size,
         unit: c.unit,
+        sheeted: c.sheeted,
         len: c.len,
         joins: c.joins,
         before,
@@ -103,7 +105,8 @@ fn asked(c: Closed, before: usize, s: Tag, t: Tag) -> Question
     }
 }
 
-// Whether the answer to a 06 stands at a place, behind so many records and so many pairs: the earliest broken pair with a reason, or that none is broken.
+// Whether the answer to a 06 stands at a place, behind so many records and so many pairs: the earliest broken pair with a reason and its sheets, or that none is
+// broken.
 pub fn checked(
     job: &[u8],
     report: &[u8],
@@ -122,12 +125,13 @@ pub fn checked(
     }
     let pair = pair_at(job, number);
     let first = since(work, number - 1);
-    breach(
+    let found = breach(
         report,
         at,
         work,
         asked(c, before, pair.s, pair.t),
         first,
         number,
-    )
+    );
+    sheets_behind(found, job, report, at, 5, work, c.sheeted)
 }

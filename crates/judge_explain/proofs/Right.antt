@@ -1,9 +1,9 @@
 -- A right field that stands at a place is found there whole, so that looking for the numbers of a reason in it, or comparing its bytes with
 -- those of the field that says there is none, decides whether one stands there. Assumes nothing.
-use Prim.Native.Nat.{ℕ, _+_, _-_, _*_, _/_, _%_, _≤_, _<_}
+use Prim.Native.Nat.{ℕ, suc, _+_, _-_, _*_, _/_, _%_, _≤_, _<_}
 use native.Mathlib.Omega.{arith}
 use native.Mathlib.Decide.{ℕ-discrete}
-use mathlib.Core.Path.{_≡_, refl, sym, _∙_, ap}
+use mathlib.Core.Path.{_≡_, refl, sym, _∙_, ap, subst}
 use mathlib.Core.Logic.{_≢_, _↔_}
 use mathlib.Core.Bool.{Bool, true, false}
 use mathlib.Core.List.{List, [], _∷_, List·Memᴰ}
@@ -16,14 +16,17 @@ use Rattle.meaning.proofs.Short.{reason-others}
 use Rattle.meaning.proofs.Reference.{Small}
 use Rattle.meaning.proofs.Trim.{member-le-last, le-last}
 use Rattle.meaning.proofs.Close.{more-of}
-use Rattle.job_field.specs.Items.{Head, explain}
-use Rattle.table.specs.Map.{whenOf, recordsIn, listOf, listIn, Within}
+use Rattle.job_field.specs.Items.{Head, Moment, explain, recordsOf}
+use Rattle.job_field.specs.Reading.{headIn, itemsIn, matterIn}
+use Rattle.table.specs.Map.{whenOf, recAt, recordsIn, listOf, listIn, Within}
 use Rattle.table.proofs.Frame.{within-refl, within-trans, within-wider, length-gather}
 use Rattle.table.specs.Past.{Past}
 use Rattle.moment.proofs.Kept.{kept-records, kept-loaded}
 use Rattle.reason.proofs.Whole.{small-records}
-use Rattle.report.specs.Report.{numbers, field, Answers, because, apart, tabled, afterRecords}
+use Rattle.report.specs.Report as told
+use Rattle.report.specs.Report.{numbers, field}
 use Rattle.report.specs.Fault.{Stands}
+use Rattle.report.proofs.Known.{because-known, because-tabled, stands-map}
 use Rattle.report_read.specs.Read.{Holds, FrontAt, whole, none}
 use Rattle.report_numbers.specs.Read.{ListRead}
 use Rattle.report_read.specs.declared.Front.{Front}
@@ -32,42 +35,49 @@ use Rattle.report.proofs.Bytes.{length-field, length-numbers, numbers-one, fiel
 use Rattle.meaning.proofs.Tests.{is-not}
 use Rattle.meaning.specs.Limits.{mostTags}
 use Rattle.table.specs.Places.{mostWaiting, scratch}
-use Rattle.report_read.proofs.Read.{holds-one, field-body, field-room}
+use Rattle.report_read.proofs.Read.{holds-rest, holds-one, field-body, field-room}
+use Rattle.report_read.proofs.Right as front
 use Rattle.moment.specs.declared.Question.{Question}
 use Rattle.answer_ask.specs.declared.Passed.the-variants.{To, Wrong}
-use Rattle.moment.specs.Posed.{Deciding}
-use Rattle.answer_ask.specs.Right.{RightAt, to, wrong}
+use Rattle.moment.specs.Posed.{headAsked, Deciding}
+use Rattle.answer_ask.specs.declared.Passed.{Passed}
+use Rattle.answer_ask.specs.Right as far
+use Rattle.answer_ask.specs.Right.{RightAt}
+use Rattle.judge_sheets.specs.Passing.{PassedAt, to, wrong}
+use Rattle.judge_sheets.specs.Behind.{Behind, Reasoning, Turned}
+use Rattle.judge_sheets.proofs.Passing.{reasonless, reason-passed}
 use Rattle.answer_ask.proofs.Right.{found}
-use Rattle.judge_explain.specs.Right.{ExplainAnswer, Assuring, Explained, Reasoned, Known}
+use Rattle.judge_explain.specs.Right.{BecauseField, of, Assuring, Grounded, Explaining, Explained, Reasoned, Known}
 use Rattle.reason_order.specs.Order.{Rising}
 use Rattle.reason_order.proofs.Order.{rising-named}
 use Rattle.reason_test.specs.Lists.{Named, Serving, Sufficient}
 use Rattle.reason_test.proofs.Lists.{posed-kept}
 
+-- What the tables know of the job at the moment of the question.
+known : {job w : List ℕ} {q : Question} → Explaining job w q → (b : Moment) → b .records ≡ q .before → told.Known (matterIn job) b (headAsked q) (recordsIn (q .len) w) (q .before)
+known E b e = record { head = E .head; records = sym (E .records); before = e }
+
 -- An explain where the equality does not follow has one right field.
-module _ {H : Head} {rs : List Rec} {R s t : ℕ} (h : Follows (UpTo rs R) s t → ⊥) (report : List ℕ) (at : ℕ) where
-  apart-field : {f : List ℕ} → Answers (tabled H rs) (afterRecords R) (explain s t) f → f ≡ field 133 []
-  apart-field (because r) = absurd (h (reason-follows r))
-  apart-field (apart _) = refl
+module _ {job w : List ℕ} {q : Question} (E : Explaining job w q) (h : Follows (UpTo (recordsIn (q .len) w) (q .before)) (q .s .0) (q .t .0) → ⊥) (report : List ℕ) (at : ℕ) where
+  apart-then : (b : Moment) → b .records ≡ q .before → Follows (UpTo (matterIn job .records) (b .records)) (q .s .0) (q .t .0) → ⊥
+  apart-then b e f = h (rw (known E b e .records, e) at f)
 
-  pub apart-right : Holds report at (field 133 []) → RightAt (Answers (tabled H rs) (afterRecords R) (explain s t)) report at (To (at + 3))
-  apart-right g = to {p = at + 3} (apart h) g (omega (arith, length-field 133 []))
+  pub apart-passed : Holds report at (field 133 []) → Explained job report w w at q (To (at + 3))
+  apart-passed g = record { kept = within-refl w; right = λ b e. to {p = at + 3} (told.apart (apart-then b e)) g (omega (arith, length-field 133 [])) }
 
-  pub apart-wrong : (Holds report at (field 133 []) → ⊥) → RightAt (Answers (tabled H rs) (afterRecords R) (explain s t)) report at Wrong
-  apart-wrong g = wrong (λ x. let r = found report at x in g (rw (apart-field (r .is)) at (r .holds)))
+  pub apart-missing : (Holds report at (field 133 []) → ⊥) → Explained job report w w at q Wrong
+  apart-missing g = record {
+    kept = within-refl w;
+    right = λ b e. wrong
+        (λ x. let r = front.apart-right {M = matterIn job} {b = b} (apart-then b e) x in g (holds-rest report at (field 133 []) (r .0) (r .1)))
+        (λ L x. reasonless (λ K f r. none b e r) x);
+  }
+    where
+      none : (b : Moment) → b .records ≡ q .before → {K f : List ℕ} → told.Reasoned (matterIn job) b (explain (q .s .0) (q .t .0)) K f → ⊥
+      none b e (told.because r) = apart-then b e (reason-follows r)
 
 pub apart-room : (report : List ℕ) (at : ℕ) → at ≤ length report → Holds report at (field 133 []) → at + 3 ≤ length report
 apart-room report at l h = omega (arith, field-room report at 133 [] l h)
-
--- Where it follows, the right fields are those of its reasons.
-record Because (N : ℕ) (rs : List Rec) (R s t : ℕ) (f : List ℕ) : Type 0 where
-  list : List ℕ
-  reason : Reason N rs R s t list
-  is : f ≡ field 132 (numbers list)
-
-because-field : {H : Head} {rs : List Rec} {R s t : ℕ} {f : List ℕ} → Follows (UpTo rs R) s t → Answers (tabled H rs) (afterRecords R) (explain s t) f → Because (H .size) rs R s t f
-because-field h (because {L = L} r) = record { list = L; reason = r; is = refl }
-because-field h (apart g) = absurd (g h)
 
 -- The points of a reason that are tested, where the first k is at hand: the others follow from them.
 no-number : (L : List ℕ) → Above 0 L → lastOf 0 L ≡ 0 → L ≡ []
@@ -188,33 +198,80 @@ whole-room {report} {at} {kind} {size} l f = omega (arith, field-room report at 
 fields-one : (report : List ℕ) (at k k′ : ℕ) (b b′ : List ℕ) → Holds report at (field k b) → Holds report at (field k′ b′) → (k ≡ k′) × (b ≡ b′)
 fields-one report at k k′ b b′ h g = let r = field-one k k′ b b′ (drop (at + length (field k b)) report) (drop (at + length (field k′ b′)) report) (sym h ∙ g) in (r .0, r .1)
 
-module _ (w report : List ℕ) (at : ℕ) (q : Question) {k : ℕ} (K : Known w q k) where
-  -- A right field for the question is that of a reason.
-  reason-found : Stands (ExplainAnswer w q) (drop at report) → (L : List ℕ) × Reason (q .size) (recordsIn (q .len) w) (q .before) (q .s .0) (q .t .0) L × Holds report at (field 132 (numbers L))
-  reason-found x =
-      let r = found report at x in
-      let b = because-field (more-of (λ n l. omega (arith, K .early)) (K .first .then)) (r .is) in
-      (b .list, b .reason, rw (b .is) at (r .holds))
+module _ (w report : List ℕ) (at : ℕ) (q : Question) where
+  -- A right field is that of a reason.
+  reason-found : Stands (BecauseField w q) (drop at report) → (L : List ℕ) × Reason (q .size) (recordsIn (q .len) w) (q .before) (q .s .0) (q .t .0) L × Holds report at (field 132 (numbers L))
+  reason-found x = let r = found report at x in go (r .is) (r .holds)
+    where
+      go : {f : List ℕ} → BecauseField w q f → Holds report at f → (L : List ℕ) × Reason (q .size) (recordsIn (q .len) w) (q .before) (q .s .0) (q .t .0) L × Holds report at (field 132 (numbers L))
+      go (of {L = L} r) h = (L, r, h)
 
-  pub because-cut : {r : Front} → FrontAt report at r → r ≡ Cut → Explained w w report at q Wrong
-  because-cut f e = record { kept = within-refl w; right = wrong (λ x. let b = reason-found x in go f e (b .0) (b .2)) }
+  pub because-cut : {r : Front} → FrontAt report at r → r ≡ Cut → Grounded w w report at q Wrong
+  because-cut f e = record { kept = within-refl w; right = far.wrong (λ x. let b = reason-found x in go f e (b .0) (b .2)) }
     where
       go : {r : Front} → FrontAt report at r → r ≡ Cut → (L : List ℕ) → Holds report at (field 132 (numbers L)) → ⊥
       go (whole body h) e L g = let z : _≡_ {A = ℕ} 0 1 = cc in omega arith
       go (none h) e L g = h 132 (numbers L) g
 
   module _ {kind size : ℕ} (f : Whole report at kind size) where
-    pub because-other : kind ≢ 132 → Explained w w report at q Wrong
-    because-other h = record { kept = within-refl w; right = wrong (λ x. let r = reason-found x in h (fields-one report at kind 132 (f .body) (numbers (r .0)) (f .holds) (r .2) .0)) }
+    pub because-other : kind ≢ 132 → Grounded w w report at q Wrong
+    because-other h = record { kept = within-refl w; right = far.wrong (λ x. let r = reason-found x in h (fields-one report at kind 132 (f .body) (numbers (r .0)) (f .holds) (r .2) .0)) }
 
-    pub because-right : {w′ : List ℕ} → kind ≡ 132 → Within scratch w w′ → Reasoned w report (at + 3) size q → Explained w w′ report at q (To (at + 3 + size))
+    pub because-right : {w′ : List ℕ} → kind ≡ 132 → Within scratch w w′ → Reasoned w report (at + 3) size q → Grounded w w′ report at q (To (at + 3 + size))
     because-right {w′} e g r =
         let b : f .body ≡ numbers (r .list) = holds-one report (at + 3) (f .body) (numbers (r .list)) (f .long ∙ sym (r .all) ∙ sym (length-numbers (r .list))) (field-body report at kind (f .body) (f .holds)) (r .stand) in
         let h : Holds report at (field 132 (numbers (r .list))) = rw (b, e) at (f .holds) in
-        record { kept = g; right = to {p = at + 3 + size} (because (r .reason)) h (omega (arith, length-field 132 (numbers (r .list)), length-numbers (r .list), r .all)) }
+        record { kept = g; right = far.to {p = at + 3 + size} (of (r .reason)) h (omega (arith, length-field 132 (numbers (r .list)), length-numbers (r .list), r .all)) }
 
-    pub because-wrong : {w′ : List ℕ} → Within scratch w w′ → (Reasoned w report (at + 3) size q → ⊥) → Explained w w′ report at q Wrong
-    because-wrong {w′} g h = record { kept = g; right = wrong (λ x. let r = reason-found x in go (r .0) (r .1) (r .2) (fields-one report at kind 132 (f .body) (numbers (r .0)) (f .holds) (r .2) .1)) }
+    pub because-wrong : {w′ : List ℕ} → Within scratch w w′ → (Reasoned w report (at + 3) size q → ⊥) → Grounded w w′ report at q Wrong
+    because-wrong {w′} g h = record { kept = g; right = far.wrong (λ x. let r = reason-found x in go (r .0) (r .1) (r .2) (fields-one report at kind 132 (f .body) (numbers (r .0)) (f .holds) (r .2) .1)) }
       where
         go : (L : List ℕ) → Reason (q .size) (recordsIn (q .len) w) (q .before) (q .s .0) (q .t .0) L → Holds report at (field 132 (numbers L)) → f .body ≡ numbers L → ⊥
         go L r b e = h (record { list = L; all = sym (length-numbers L) ∙ sym (ap length e) ∙ f .long; stand = field-body report at 132 (numbers L) b; reason = r })
+
+-- A reason that was found is one of the job's records, and its sheets can be looked for.
+module _ {job w : List ℕ} {q : Question} (E : Explaining job w q) where
+  early : q .before ≤ length (recordsOf (itemsIn job))
+  early = omega (arith, E .posed .early, ap length (E .records), length-gather (λ i. recAt w (suc i)) (q .len))
+
+  reason-behind : {report w′ L : List ℕ} {at end : ℕ} → Within scratch w w′ → at ≤ length report → Reason (q .size) (recordsIn (q .len) w) (q .before) (q .s .0) (q .t .0) L → Holds report at (field 132 (numbers L))
+      → end ≡ at + length (field 132 (numbers L)) → Behind job report w′ (at + 3) end
+  reason-behind {report} {w′} {L} {at} {end} k l r h e = record {
+    stands = E .stands;
+    long = omega (arith, E .posed .past .loaded .long, k .size);
+    list = L;
+    all = omega (arith, length-field 132 (numbers L), length-numbers L);
+    holds = field-body report at 132 (numbers L) h;
+    within = omega (arith, field-room report at 132 (numbers L) l h, length-field 132 (numbers L));
+    few = omega (arith, reason-short r, E .posed .past .loaded .few);
+    rising = r .rising;
+    there = λ n i. omega (arith, r .stand n i, early);
+  }
+
+  pub reasoning-there : {report w′ : List ℕ} {at : ℕ} {passed : Passed} → at ≤ length report → Grounded w w′ report at q passed → Reasoning job report w′ (q .sheeted) at 3 passed
+  reasoning-there {report} {w′} {at} {passed} l g = record { edition = ap (λ (h : Head). h .sheeted) (E .head); behind = λ end e. go (g .right) e }
+    where
+      go : {p : Passed} {end : ℕ} → RightAt (BecauseField w q) report at p → p ≡ To end → Behind job report w′ (at + 3) end
+      go {p} {end} (far.to {p = p′} (of r) h i) e = let z : p′ ≡ end = cc in reason-behind (g .kept) l r h (sym z ∙ i)
+      go (far.wrong n) e = let y : _≡_ {A = ℕ} 0 1 = cc in absurd (omega arith)
+
+  module _ {k : ℕ} (K : Known w q k) (b : Moment) (e : b .records ≡ q .before) where
+    field-because : {L f : List ℕ} → told.Reasoned (matterIn job) b (explain (q .s .0) (q .t .0)) L f → BecauseField w q f
+    field-because r = go (because-tabled (known E b e) r)
+      where
+        go : {L f : List ℕ} → told.Reasoned (told.tabled (headAsked q) (recordsIn (q .len) w)) (told.afterRecords (q .before)) (explain (q .s .0) (q .t .0)) L f → BecauseField w q f
+        go (told.because r) = of r
+
+    follows : Follows (UpTo (matterIn job .records) (b .records)) (q .s .0) (q .t .0)
+    follows = rw (known E b e .records, e) (more-of (λ n l. omega (arith, K .early)) (K .first .then))
+
+    no-answer : {report : List ℕ} {at : ℕ} → (Stands (BecauseField w q) (drop at report) → ⊥) → PassedAt (matterIn job) b (explain (q .s .0) (q .t .0)) report at Wrong
+    no-answer n = wrong (λ x. let y = front.follows-right {M = matterIn job} {b = b} follows x in n (stands-map (λ f r. field-because r) (y .1))) (λ L x. n (stands-map (λ f r. field-because r) x))
+
+    because-answer : {report w₁ w₂ : List ℕ} {at : ℕ} {passed answer : Passed} → RightAt (BecauseField w q) report at passed → Turned job report w₁ w₂ (at + 3) passed answer → PassedAt (matterIn job) b (explain (q .s .0) (q .t .0)) report at answer
+    because-answer {report} {at = at} (far.to {p = p} (of {L = L} r) h i) t =
+        reason-passed (because-known (known E b e) r) h i (t .some p refl L (omega (arith, length-field 132 (numbers L), length-numbers L)) (field-body report at 132 (numbers L) h))
+    because-answer {report} {at = at} {answer = answer} (far.wrong n) t = subst (λ (a : Passed). PassedAt (matterIn job) b (explain (q .s .0) (q .t .0)) report at a) (sym (t .none refl)) (no-answer n)
+
+  pub because-explained : {k : ℕ} {report w₁ w₂ : List ℕ} {at : ℕ} {passed answer : Passed} → Known w q k → Grounded w w₁ report at q passed → Turned job report w₁ w₂ (at + 3) passed answer → Explained job report w w₂ at q answer
+  because-explained K g t = record { kept = within-trans (g .kept) (t .kept); right = λ b e. because-answer K b e (g .right) t }

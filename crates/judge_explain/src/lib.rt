@@ -1,10 +1,12 @@
-// Whether the right answer to an explain stands at a place of a report, over the table that the closure left. Document 01, "Reasons" and "The job
-// and the report". Rests on moment, pairs, answer_ask, report, report_read, report_numbers, reason, reason_order and reason_test.
+// Whether the right answer to an explain stands at a place of a report, over the table that the closure left, with the sheets of its reason in edition 2. Document
+// 01, "Reasons" and "The job and the report"; document 02, No. 9. Rests on moment, pairs, answer_ask, judge_sheets, report, report_read, report_numbers, reason,
+// reason_order and reason_test.
 ghost use Prim.Native.Nat.{_+_, _≤_};
 ghost use lib.ListN.{length};
 ghost use Rattle.moment.specs.Posed.{Posed, Deciding};
-ghost use Rattle.judge_explain.specs.Right.{Assuring, Explained, Reasoned, Known};
+ghost use Rattle.judge_explain.specs.Right.{Assuring, Grounded, Explaining, Explained, Reasoned, Known};
 use answer_ask::Passed;
+use judge_sheets::sheets_behind;
 use moment::Question;
 use pairs::came;
 use reason::Answer;
@@ -77,7 +79,7 @@ pub fn is_reason(
 // Whether a reason stands at a place, where `first` is the first k.
 fn because(report: &[u8], at: usize, work: &mut [u16], q: Question, first: usize) -> Passed
     requires { ⌜ Known (now work) q first × (at ≤ length (now report)) ⌝ }
-    ensures { λ r. ⌜ Explained (now (work .entry)) (now (work .exit)) (now (report .entry)) at q r ⌝ }
+    ensures { λ r. ⌜ Grounded (now (work .entry)) (now (work .exit)) (now (report .entry)) at q r ⌝ }
 {
     match report_read::front_at(report, at) {
         Front::Cut => Passed::Wrong,
@@ -94,14 +96,15 @@ fn because(report: &[u8], at: usize, work: &mut [u16], q: Question, first: usize
     }
 }
 
-// Whether the answer to an explain stands at a place: a reason, or that the equality does not follow.
-pub fn explained(report: &[u8], at: usize, work: &mut [u16], q: Question) -> Passed
-    requires { ⌜ Posed (now work) q × (at ≤ length (now report)) ⌝ }
-    ensures { λ r. ⌜ Explained (now (work .entry)) (now (work .exit)) (now (report .entry)) at q r ⌝ }
+// Whether the answer to an explain stands at a place: a reason with its sheets, or that the equality does not follow.
+pub fn explained(job: &[u8], report: &[u8], at: usize, work: &mut [u16], q: Question) -> Passed
+    requires { ⌜ Explaining (now job) (now work) q × (at ≤ length (now report)) ⌝ }
+    ensures { λ r. ⌜ Explained (now (job .entry)) (now (report .entry)) (now (work .entry)) (now (work .exit)) at q r ⌝ }
 {
     let first = came(work, q);
     if first <= q.before {
-        return because(report, at, work, q, first);
+        let found = because(report, at, work, q, first);
+        return sheets_behind(found, job, report, at, 3, work, q.sheeted);
     }
     if report_read::is_apart(report, at) {
         Passed::To(at + 3)

@@ -17,6 +17,10 @@ mostQuestions = 1000
 abbrev pub mostDiffers : ℕ
 mostDiffers = 500
 
+-- Document 02, No. 9: "a sheet number, 0 to 9,999".
+abbrev pub mostSheet : ℕ
+mostSheet = 9999
+
 -- "a record table of 4,000 places, each a kind and three numbers, and a work table of 32,768 two-byte numbers".
 abbrev pub namedPlaces : ℕ
 namedPlaces = 4000

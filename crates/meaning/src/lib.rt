@@ -95,6 +95,9 @@ impl RecordNo {
 // differ, and the named places of the record table and of the work table.
 pub const LONGEST: usize = 46510;
 
+// That of edition 2.
+pub const LONGEST_SHEETED: usize = 54510;
+
 pub const MOST_TAGS: usize = 1000;
 
 pub const MOST_RECORDS: usize = 4000;
@@ -102,6 +105,8 @@ pub const MOST_RECORDS: usize = 4000;
 pub const MOST_QUESTIONS: usize = 1000;
 
 pub const MOST_DIFFERS: usize = 500;
+
+pub const MOST_SHEET: usize = 9999;
 
 pub const NAMED_PLACES: usize = 4000;
 

@@ -14,10 +14,10 @@ use Rattle.moment.specs.declared.Question.{Question}
 
 -- What the first field of the job said, as the code holds it.
 abbrev pub headOf : Closed → Head
-headOf c = record { size = c .size; units = c .unit }
+headOf c = record { size = c .size; units = c .unit; sheeted = c .sheeted }
 
 abbrev pub headAsked : Question → Head
-headAsked q = record { size = q .size; units = q .unit }
+headAsked q = record { size = q .size; units = q .unit; sheeted = q .sheeted }
 
 -- The table holds what the question is about: N tags, all records with their joins, and the records before it among them.
 pub record Posed (w : List ℕ) (q : Question) : Type 0 where

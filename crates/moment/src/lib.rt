@@ -160,18 +160,20 @@ pub fn met(work: &[u16], s: Tag, t: Tag) -> usize
 
 // What is asked.
 
-// What is asked about: N tags, of which those from `unit` up are units, so many records, and the joins they led to.
+// What is asked about: N tags, of which those from `unit` up are units, whether records have sheets, so many records, and the joins they led to.
 pub struct Closed {
     pub size: usize,
     pub unit: usize,
+    pub sheeted: bool,
     pub len: usize,
     pub joins: usize,
 }
 
-// A question at its moment: N and U, the numbers of all records and of all joins, the records before it, and its two tags.
+// A question at its moment: N and U and the edition, the numbers of all records and of all joins, the records before it, and its two tags.
 pub struct Question {
     pub size: usize,
     pub unit: usize,
+    pub sheeted: bool,
     pub len: usize,
     pub joins: usize,
     pub before: usize,

@@ -46,7 +46,7 @@ module _ {job : List ℕ} {number at left : ℕ} where
     where
       go : (rest : List Item) → Stands job (headIn job .size) at rest → left ≤ length (pairsOf rest) → pairNo (pairsOf rest) left ≡ pairNo (pairsOf (itemsIn job)) number → Seeking job number (behindAt job at) (left - here)
       go rest (ends f l) m q = absurd (omega (arith, s .some))
-      go rest (next {i = i} {is = is} f t l st) m q =
+      go rest (next {i = i} {is = is} f t v l st) m q =
           let k : here ≡ length (pairsAt (item i)) = e ∙ ap (λ (g : Field). length (pairsAt g)) f in
           let n : pairNo (pairsAt (item i) ++ pairsOf is) left ≡ pairNo (pairsOf (itemsIn job)) number = rw (← pairs-cons i is) q in
           record {
@@ -62,13 +62,13 @@ module _ {job : List ℕ} {number at left : ℕ} where
     where
       go : (rest : List Item) → Stands job (headIn job .size) at rest → (at < behindAt job at) × (behindAt job at ≤ length job)
       go rest (ends f l) = (omega arith, omega arith)
-      go rest (next f t l st) = (omega arith, l)
+      go rest (next f t v l st) = (omega arith, l)
 
 -- The field that has it.
 module _ {job : List ℕ} {number left : ℕ} where
   note-found : (n : Note) (is : List Item) (p : Differing) → Tagged (headIn job .size) (noted n) → left ≤ length (pairsIn n) → 1 ≤ left → pairOf p ≡ firstIn (pairsIn n)
       → pairNo (pairsIn n ++ pairsOf is) left ≡ pairNo (pairsOf (itemsIn job)) number → Found job number p
-  note-found (line r) is p t h s e q = absurd (omega arith)
+  note-found (line r v) is p t h s e q = absurd (omega arith)
   note-found (differ a b) is p t h s e q =
       let one : left ≡ 1 = omega arith in
       let x : p .s .0 ≡ a = ap (λ (y : Pair). y .first) e in
@@ -81,7 +81,7 @@ module _ {job : List ℕ} {number at left : ℕ} where
     where
       go : (rest : List Item) → Stands job (headIn job .size) at rest → pairNo (pairsOf rest) left ≡ pairNo (pairsOf (itemsIn job)) number → Found job number p
       go rest (ends f l) q = let k : here ≡ 0 = e ∙ ap (λ (g : Field). length (pairsAt g)) f in absurd (omega (arith, s .some))
-      go rest (next {i = noted n} {is = is} f t l st) q =
+      go rest (next {i = noted n} {is = is} f t v l st) q =
           let k : here ≡ length (pairsIn n) = e ∙ ap (λ (g : Field). length (pairsAt g)) f in
           note-found n is p t (omega arith) (s .some) (x ∙ ap (λ (g : Field). firstIn (pairsAt g)) f) q
-      go rest (next {i = posed u} {is = is} f t l st) q = let k : here ≡ 0 = e ∙ ap (λ (g : Field). length (pairsAt g)) f in absurd (omega (arith, s .some))
+      go rest (next {i = posed u} {is = is} f t v l st) q = let k : here ≡ 0 = e ∙ ap (λ (g : Field). length (pairsAt g)) f in absurd (omega (arith, s .some))

@@ -44,7 +44,7 @@ pub fn came(work: &[u16], q: Question) -> usize
 
 // When the tags of a pair became equal is kept at its place, by all records.
 fn mark(work: &mut [u16], c: Closed, i: usize, s: Tag, t: Tag)
-    requires { ⌜ Posed (now work) (record { size = c .size; unit = c .unit; len = c .len; joins = c .joins; before = c .len; s = s; t = t }) × (i < mostDiffers) ⌝ }
+    requires { ⌜ Posed (now work) (record { size = c .size; unit = c .unit; sheeted = c .sheeted; len = c .len; joins = c .joins; before = c .len; s = s; t = t }) × (i < mostDiffers) ⌝ }
     ensures { λ _. ⌜ Stored (now (work .entry)) (now (work .exit)) (c .len) i (s .0) (t .0) ⌝ }
 {
     let k = came(
@@ -52,6 +52,7 @@ fn mark(work: &mut [u16], c: Closed, i: usize, s: Tag, t: Tag)
         Question {
             size: c.size,
             unit: c.unit,
+            sheeted: c.sheeted,
             len: c.len,
             joins: c.joins,
             before: c.len,
@@ -68,8 +69,8 @@ pub fn mark_note(l: Line, work: &mut [u16], c: Closed, i: usize)
     ensures { λ _. ⌜ Noted (now (work .entry)) (now (work .exit)) (c .len) i (noteSaid l) ⌝ }
 {
     match l {
-        Line::Equation(_, _) => {}
-        Line::Application(_, _, _) => {}
+        Line::Equation(_, _, _) => {}
+        Line::Application(_, _, _, _) => {}
         Line::Differ(s, t) => {
             mark(work, c, i, s, t);
         }
@@ -103,7 +104,7 @@ fn pairs_here(field: Field) -> u16
 {
     match field {
         Field::Bad(_) => 0,
-        Field::Header(_, _) => 0,
+        Field::Header(_, _, _) => 0,
         Field::Noted(l) => pairs_in(l),
         Field::Posed(_) => 0,
         Field::End => 0,
@@ -115,11 +116,11 @@ fn pair_in(l: Line) -> Differing
     ensures { λ p. ⌜ pairOf p ≡ firstIn (pairsIn (noteSaid l)) ⌝ }
 {
     match l {
-        Line::Equation(_, _) => Differing {
+        Line::Equation(_, _, _) => Differing {
             s: NO_TAG,
             t: NO_TAG,
         },
-        Line::Application(_, _, _) => Differing {
+        Line::Application(_, _, _, _) => Differing {
             s: NO_TAG,
             t: NO_TAG,
         },
@@ -135,7 +136,7 @@ fn pair_here(field: Field) -> Differing
             s: NO_TAG,
             t: NO_TAG,
         },
-        Field::Header(_, _) => Differing {
+        Field::Header(_, _, _) => Differing {
             s: NO_TAG,
             t: NO_TAG,
         },

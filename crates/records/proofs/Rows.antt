@@ -45,7 +45,7 @@ zero-tag : Is G.the-row (blank .a) (LL.vals G.the-type G′.the-laws (blank .a))
 zero-tag = LL.owes G.the-type G′.the-laws (blank .a) ((refl, lit< tt), tt)
 
 pub blank-is : Is R blank (vals blank)
-blank-is = LL.owes T.the-type T′.the-laws blank ((refl, lit< tt), (zero-tag, (zero-tag, (zero-tag, tt))))
+blank-is = LL.owes T.the-type T′.the-laws blank ((refl, lit< tt), (zero-tag, (zero-tag, (zero-tag, ((refl, lit< tt), tt)))))
 
 -- ---- code: a sequence without its first part
 abbrev pub after : Body → Body

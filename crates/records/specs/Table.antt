@@ -12,12 +12,12 @@ use Rattle.records.specs.declared.Record.{Record}
 
 -- A place that is zero: kind 0, no record.
 abbrev pub blank : Record
-blank = record { kind = 0; a = record { 0 = 0 }; b = record { 0 = 0 }; c = record { 0 = 0 } }
+blank = record { kind = 0; a = record { 0 = 0 }; b = record { 0 = 0 }; c = record { 0 = 0 }; sheet = 0 }
 
--- How a record stands in a place: kind 1 with a, b and zero, or kind 2 with a, b, c.
-abbrev pub placeOf : Rec → Record
-placeOf (eq a b) = record { kind = 1; a = record { 0 = a }; b = record { 0 = b }; c = record { 0 = 0 } }
-placeOf (app a b c) = record { kind = 2; a = record { 0 = a }; b = record { 0 = b }; c = record { 0 = c } }
+-- How a record and its sheet stand in a place: kind 1 with a, b and zero, or kind 2 with a, b, c. "Every record kept inside carries it."
+abbrev pub placeOf : Rec → ℕ → Record
+placeOf (eq a b) h = record { kind = 1; a = record { 0 = a }; b = record { 0 = b }; c = record { 0 = 0 }; sheet = h }
+placeOf (app a b c) h = record { kind = 2; a = record { 0 = a }; b = record { 0 = b }; c = record { 0 = c }; sheet = h }
 
 -- The record that a place means. (A place of another kind holds no record, and is never asked.)
 abbrev pub recOf : Record → Rec

@@ -1,4 +1,4 @@
-// The record table: a lent slice of 4,000 places, each a kind and three numbers. Document 01, "What is lent, and each refusal".
+// The record table: a lent slice of 4,000 places, each a kind, three numbers and a sheet. Document 01, "What is lent, and each refusal".
 // Rests on meaning. These are the only functions that touch a place of it; a longer table is accepted, and its rest is left alone.
 ghost use mathlib.Core.Path.{_≡_};
 ghost use Prim.Native.Nat.{_<_, _≤_};
@@ -11,12 +11,14 @@ use meaning::Tag;
 // The named places.
 pub const NAMED: usize = meaning::NAMED_PLACES;
 
-// A place of the table. Kind 1 is the record a = b, with c zero; kind 2 is f(a, b) = c; kind 0 is no record, and then all is zero.
+// A place of the table. Kind 1 is the record a = b, with c zero; kind 2 is f(a, b) = c; kind 0 is no record, and then all is zero. The record's sheet is 0
+// where it has none (document 02, No. 9).
 pub struct Record {
     pub kind: u16,
     pub a: Tag,
     pub b: Tag,
     pub c: Tag,
+    pub sheet: u16,
 }
 
 // The record at a place.
@@ -45,6 +47,7 @@ pub fn clear(records: &mut [Record])
         a: NO_TAG,
         b: NO_TAG,
         c: NO_TAG,
+        sheet: 0,
     };
     let mut i = 0;
     while i < NAMED {

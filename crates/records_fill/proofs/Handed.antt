@@ -11,7 +11,7 @@ use lib.ListN.{length, getD}
 use Rattle.meaning.specs.Following.{Rec, eq, app}
 use Rattle.meaning.proofs.Reference.{Small}
 use Rattle.meaning.specs.Limits.{mostRecords, mostTags}
-use Rattle.job_field.specs.Items.{Head, Note, line, differ, standsFor, tagsOfRecord, Item, noted, posed, accepted, recordsOf}
+use Rattle.job_field.specs.Items.{Head, Note, line, differ, standsFor, tagsOfRecord, Item, noted, posed, accepted, recordsOf, sheetsOf}
 use Rattle.job_field.specs.Reading.{behindAt, reading}
 use Rattle.job_field.specs.Standing.{Below, Tagged, Stands, next, Job}
 use Rattle.job_field.proofs.Standing.{accepted-stands}
@@ -59,13 +59,13 @@ all-append N [] qs a b = b
 all-append N (r ∷ rs) qs a b = (a .0, all-append N rs qs (a .1) b)
 
 note-small : (N : ℕ) (n : Note) → Tagged N (noted n) → AllSmall N (standsFor n)
-note-small N (line r) t = (tagged-small N r t, tt)
+note-small N (line r h) t = (tagged-small N r t, tt)
 note-small N (differ a b) t = tt
 
 stands-small : (job : List ℕ) (N at : ℕ) (items : List Item) → Stands job N at items → AllSmall N (recordsOf items)
 stands-small job N at [] s = tt
-stands-small job N at (noted n ∷ is) (next e t l s) = all-append N (standsFor n) (recordsOf is) (note-small N n t) (stands-small job N _ is s)
-stands-small job N at (posed q ∷ is) (next e t l s) = stands-small job N _ is s
+stands-small job N at (noted n ∷ is) (next e t v l s) = all-append N (standsFor n) (recordsOf is) (note-small N n t) (stands-small job N _ is s)
+stands-small job N at (posed q ∷ is) (next e t v l s) = stands-small job N _ is s
 
 -- Nothing to load.
 pub none-loadable : (t : List Record) (w : List ℕ) → Large w → Loadable 0 t w
@@ -89,7 +89,7 @@ module _ (job : List ℕ) (H : Head) (items : List Item) (e : reading job ≡ ac
 
   module _ (f : Filled job n t t′) where
     filled-at : (k : ℕ) → k < n → recOf (getD t′ k blank) ≡ getD rs k (eq 0 0)
-    filled-at k l = ap recOf (f .holds H items e (omega arith) k l) ∙ place-means (getD rs k (eq 0 0))
+    filled-at k l = ap recOf (f .holds H items e (omega arith) k l) ∙ place-means (getD rs k (eq 0 0)) (getD (sheetsOf items) k 0)
 
     -- The first places mean the job's records.
     pub filled-held : held n t′ ≡ rs

@@ -5,18 +5,17 @@ use Prim.Native.Nat.{ℕ, suc, _+_, _-_, _≤_, _<_}
 use native.Mathlib.Omega.{arith}
 use mathlib.Core.Path.{_≡_, refl, sym, _∙_, ap}
 use mathlib.Core.Bool.{Bool, true, false, cond}
-use mathlib.Core.List.{List, [], _∷_, _++_}
+use mathlib.Core.List.{List, [], _∷_}
 use lib.ListN.{length}
 use Rattle.meaning.specs.Following.{Rec}
-use Rattle.job_field.specs.Items.{Head, Note, Item, standsFor, noted, posed, recordsOf}
+use Rattle.job_field.specs.Items.{Head, Note, line, differ, Item, noted, posed, recordsOf, sheetsOf}
 use Rattle.job_field.specs.Reading.{Field, bad, header, item, end, behindAt, fieldAt}
 use Rattle.job_field.specs.Standing.{Stands, Met}
-use Rattle.job_field.proofs.Items.{stands-few}
 use Rattle.job_field.proofs.Reading.{field-whole}
 use Rattle.job_field.proofs.Standing.{stands-item, stands-end, stands-not-bad, stands-not-header}
 use Rattle.records.specs.Table.{placeOf}
 use Rattle.records_fill.specs.declared.Found.{Found}
-use Rattle.records_fill.specs.Seeking.{foundIn, foundAt, Ahead, begin, on, First, Seeks}
+use Rattle.records_fill.specs.Seeking.{foundAt, Ahead, begin, on, First, Seeks}
 
 -- What the cursor says at a place says which items are ahead of it.
 module _ (job : List ℕ) (H : Head) where
@@ -36,21 +35,21 @@ module _ (job : List ℕ) (H : Head) where
   ahead-not-bad at n is (begin h s) f = let z : _≡_ {A = ℕ} 0 1 = cc in omega arith
   ahead-not-bad at n is (on s) f = stands-not-bad job (H .size) at n is s f
 
--- How far the search has come: f is what stands at a place from which the same records stand ahead.
+-- How far the search has come: f is what stands at a place from which the same records stand ahead, with the same sheets.
 pub record Seeking (job : List ℕ) (at : ℕ) (f : Found) : Type 0 where
   pub place : ℕ
   pub is : f ≡ foundAt job place (fieldAt job place)
-  pub skips : (H : Head) (items : List Item) → Ahead job H at items → (others : List Item) × Ahead job H place others × (recordsOf others ≡ recordsOf items)
+  pub skips : (H : Head) (items : List Item) → Ahead job H at items → (others : List Item) × Ahead job H place others × (recordsOf others ≡ recordsOf items) × (sheetsOf others ≡ sheetsOf items)
 
 module _ (job : List ℕ) (at : ℕ) where
   pub seeking-begin : (f : Found) → f ≡ foundAt job at (fieldAt job at) → Seeking job at f
-  seeking-begin f e = record { place = at; is = e; skips = λ H items s. (items, s, refl) }
+  seeking-begin f e = record { place = at; is = e; skips = λ H items s. (items, s, refl, refl) }
 
   -- A field to be passed over was found at p.
   record Over (p : ℕ) (f : Found) : Type 0 where
     next : f .next ≡ behindAt job p
     there : behindAt job p ≤ length job
-    skip : (H : Head) (items : List Item) → Ahead job H p items → (others : List Item) × Ahead job H (behindAt job p) others × (recordsOf others ≡ recordsOf items)
+    skip : (H : Head) (items : List Item) → Ahead job H p items → (others : List Item) × Ahead job H (behindAt job p) others × (recordsOf others ≡ recordsOf items) × (sheetsOf others ≡ sheetsOf items)
 
   over : (p : ℕ) (f : Found) → f ≡ foundAt job p (fieldAt job p) → f .question ≡ true → Over p f
   over p f e q = go (fieldAt job p) refl e
@@ -63,21 +62,18 @@ module _ (job : List ℕ) (at : ℕ) where
       go (header n) h e = record {
         next = ap (λ (g : Found). g .next) e;
         there = field-whole job p (header n) tt h;
-        skip = λ H items s. (items, on (ahead-header job H p n items s h), refl);
+        skip = λ H items s. (items, on (ahead-header job H p n items s h), refl, refl);
       }
-      go (item (noted n)) h e = noted-none (standsFor n) refl e
-        where
-          noted-none : (l : List Rec) → standsFor n ≡ l → f ≡ foundIn (behindAt job p) l → Over p f
-          noted-none [] k e = record {
-            next = ap (λ (g : Found). g .next) e;
-            there = field-whole job p (item (noted n)) tt h;
-            skip = λ H items s. let m : Met job (H .size) p (noted n) items = ahead-item job H p (noted n) items s h in (m .rest, on (m .onward), sym (ap recordsOf (m .first) ∙ ap (λ (l : List Rec). l ++ recordsOf (m .rest)) k));
-          }
-          noted-none (r ∷ rs) k e = none _ refl e
+      go (item (noted (line r x))) h e = none _ refl e
+      go (item (noted (differ x y))) h e = record {
+        next = ap (λ (g : Found). g .next) e;
+        there = field-whole job p (item (noted (differ x y))) tt h;
+        skip = λ H items s. let m : Met job (H .size) p (noted (differ x y)) items = ahead-item job H p (noted (differ x y)) items s h in (m .rest, on (m .onward), sym (ap recordsOf (m .first)), sym (ap sheetsOf (m .first)));
+      }
       go (item (posed u)) h e = record {
         next = ap (λ (g : Found). g .next) e;
         there = field-whole job p (item (posed u)) tt h;
-        skip = λ H items s. let m : Met job (H .size) p (posed u) items = ahead-item job H p (posed u) items s h in (m .rest, on (m .onward), sym (ap recordsOf (m .first)));
+        skip = λ H items s. let m : Met job (H .size) p (posed u) items = ahead-item job H p (posed u) items s h in (m .rest, on (m .onward), sym (ap recordsOf (m .first)), sym (ap sheetsOf (m .first)));
       }
       go end h e = none _ refl e
 
@@ -90,7 +86,7 @@ module _ (job : List ℕ) (at : ℕ) where
         skips = λ H items h.
             let b = s .skips H items h in
             let c = a .skip H (b .0) (b .1) in
-            (c .0, c .1, c .2 ∙ b .2);
+            (c .0, c .1, c .2 ∙ b .2, c .3 ∙ b .3);
       }
 
   -- What falls: what is left of the job behind a field that is passed over.
@@ -108,29 +104,25 @@ module _ (job : List ℕ) (at : ℕ) where
           rw q (omega (arith, a .next, a .there, c .next, c .there))
 
   pub seeking-done : (f : Found) → Seeking job at f → f .question ≡ false → Seeks job at f
-  seeking-done f s q H items r rs h k =
-      let b = s .skips H items h in
-      go (b .0) (b .1) (b .2 ∙ k) (fieldAt job (s .place)) refl (s .is)
+  seeking-done f s q H items r rs h hs a k j =
+      let b = s .skips H items a in
+      go (b .0) (b .1) (b .2 ∙ k) (b .3 ∙ j) (fieldAt job (s .place)) refl (s .is)
     where
-      none : (X : Found) → X .question ≡ true → f ≡ X → First job H r rs f
-      none X h e = let z : true ≡ false = sym (ap (λ (g : Found). g .question) e ∙ h) ∙ q in let y : _≡_ {A = ℕ} 0 1 = cc in absurd (omega arith)
+      none : (X : Found) → X .question ≡ true → f ≡ X → First job H r rs h hs f
+      none X t e = let z : true ≡ false = sym (ap (λ (g : Found). g .question) e ∙ t) ∙ q in let y : _≡_ {A = ℕ} 0 1 = cc in absurd (omega arith)
 
-      go : (others : List Item) → Ahead job H (s .place) others → recordsOf others ≡ r ∷ rs → (X : Field) → fieldAt job (s .place) ≡ X → f ≡ foundAt job (s .place) X → First job H r rs f
-      go others t k (bad n) x e = absurd (ahead-not-bad job H (s .place) n others t x)
-      go others t k (header n) x e = none _ refl e
-      go others t k (item (noted n)) x e = go-note (standsFor n) refl e
-        where
-          m : Met job (H .size) (s .place) (noted n) others
-          m = ahead-item job H (s .place) (noted n) others t x
-
-          go-note : (l : List Rec) → standsFor n ≡ l → f ≡ foundIn (behindAt job (s .place)) l → First job H r rs f
-          go-note [] j e = none _ refl e
-          go-note (r′ ∷ []) j e =
-              let l : r′ ∷ recordsOf (m .rest) ≡ r ∷ rs = sym (ap recordsOf (m .first) ∙ ap (λ (l : List Rec). l ++ recordsOf (m .rest)) j) ∙ k in
-              let same : r′ ≡ r = cc in
-              record { others = m .rest; is = ap (λ (g : Found). g .place) e ∙ ap placeOf same; behind = cc; stands = rw (ap (λ (g : Found). g .next) e) (on (m .onward)) }
-          go-note (r′ ∷ r″ ∷ more) j e = absurd (omega (arith, ap length j, stands-few n))
-      go others t k (item (posed u)) x e = none _ refl e
-      go others t k end x e =
+      go : (others : List Item) → Ahead job H (s .place) others → recordsOf others ≡ r ∷ rs → sheetsOf others ≡ h ∷ hs → (X : Field) → fieldAt job (s .place) ≡ X → f ≡ foundAt job (s .place) X → First job H r rs h hs f
+      go others t k j (bad n) x e = absurd (ahead-not-bad job H (s .place) n others t x)
+      go others t k j (header n) x e = none _ refl e
+      go others t k j (item (noted (line r′ h′))) x e =
+          let m : Met job (H .size) (s .place) (noted (line r′ h′)) others = ahead-item job H (s .place) (noted (line r′ h′)) others t x in
+          let l : r′ ∷ recordsOf (m .rest) ≡ r ∷ rs = sym (ap recordsOf (m .first)) ∙ k in
+          let i : h′ ∷ sheetsOf (m .rest) ≡ h ∷ hs = sym (ap sheetsOf (m .first)) ∙ j in
+          let same : r′ ≡ r = cc in
+          let sheet : h′ ≡ h = cc in
+          record { others = m .rest; is = ap (λ (g : Found). g .place) e ∙ ap (λ (v : Rec). placeOf v h′) same ∙ ap (placeOf r) sheet; behind = cc; sheets = cc; stands = rw (ap (λ (g : Found). g .next) e) (on (m .onward)) }
+      go others t k j (item (noted (differ y z))) x e = none _ refl e
+      go others t k j (item (posed u)) x e = none _ refl e
+      go others t k j end x e =
           let l : [] ≡ r ∷ rs = sym (ap recordsOf (ahead-end job H (s .place) others t x)) ∙ k in
           let y : _≡_ {A = ℕ} 0 1 = cc in absurd (omega arith)

@@ -4,7 +4,6 @@ ghost use mathlib.Core.Path.{_≡_};
 ghost use Rattle.meaning.specs.Following.{eq, app};
 ghost use Rattle.meaning.specs.Limits.{mostRecords};
 ghost use Rattle.table.specs.Places.{Large};
-ghost use Rattle.job_field.specs.Items.{standsFor};
 ghost use Rattle.job_field.specs.Reading.{fieldAt};
 ghost use Rattle.job_field.specs.Answer.{noteSaid};
 ghost use Rattle.records.specs.Table.{placeOf};
@@ -39,26 +38,28 @@ pub struct Found {
 }
 
 // How a = b stands in a place.
-fn equation(a: Tag, b: Tag) -> Record
-    ensures { λ r. ⌜ r ≡ placeOf (eq (a .0) (b .0)) ⌝ }
+fn equation(a: Tag, b: Tag, sheet: u16) -> Record
+    ensures { λ r. ⌜ r ≡ placeOf (eq (a .0) (b .0)) sheet ⌝ }
 {
     Record {
         kind: 1,
         a: a,
         b: b,
         c: NO_TAG,
+        sheet,
     }
 }
 
 // How f(a, b) = c stands in a place.
-fn application(a: Tag, b: Tag, c: Tag) -> Record
-    ensures { λ r. ⌜ r ≡ placeOf (app (a .0) (b .0) (c .0)) ⌝ }
+fn application(a: Tag, b: Tag, c: Tag, sheet: u16) -> Record
+    ensures { λ r. ⌜ r ≡ placeOf (app (a .0) (b .0) (c .0)) sheet ⌝ }
 {
     Record {
         kind: 2,
         a: a,
         b: b,
         c: c,
+        sheet,
     }
 }
 
@@ -73,6 +74,7 @@ fn no_record(question: bool, next: usize) -> Found
             a: NO_TAG,
             b: NO_TAG,
             c: NO_TAG,
+            sheet: 0,
         },
         next,
     }
@@ -80,17 +82,17 @@ fn no_record(question: bool, next: usize) -> Found
 
 // What a note gives, where the next field stands at `next`.
 fn note_found(l: Line, next: usize) -> Found
-    ensures { λ r. ⌜ r ≡ foundIn next (standsFor (noteSaid l)) ⌝ }
+    ensures { λ r. ⌜ r ≡ foundIn next (noteSaid l) ⌝ }
 {
     match l {
-        Line::Equation(a, b) => Found {
+        Line::Equation(a, b, h) => Found {
             question: false,
-            place: equation(a, b),
+            place: equation(a, b, h),
             next,
         },
-        Line::Application(a, b, c) => Found {
+        Line::Application(a, b, c, h) => Found {
             question: false,
-            place: application(a, b, c),
+            place: application(a, b, c, h),
             next,
         },
         Line::Differ(_, _) => no_record(true, next),
@@ -105,7 +107,7 @@ fn look(job: &[u8], at: usize) -> Found
     match field {
         Field::Noted(l) => note_found(l, behind(job, at)),
         Field::Posed(_) => no_record(true, behind(job, at)),
-        Field::Header(_, _) => no_record(true, behind(job, at)),
+        Field::Header(_, _, _) => no_record(true, behind(job, at)),
         Field::Bad(_) => no_record(false, at),
         Field::End => no_record(false, at),
     }

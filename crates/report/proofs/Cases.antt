@@ -13,10 +13,10 @@ use Rattle.report.specs.Report.{two, numbers, front, field, Answers, led
 use Rattle.report.specs.Fault.{FaultAt, past, behind, spare}
 
 abbrev items : List Item
-items = noted (line (eq 1 2)) ∷ posed (ask 0 2) ∷ []
+items = noted (line (eq 1 2) 0) ∷ posed (ask 0 2) ∷ []
 
 abbrev matter : Matter
-matter = matterOf (record { size = 3; units = 3 }) items
+matter = matterOf (record { size = 3; units = 3; sheeted = false }) items
 
 -- 83 0004 0000 0001, 8F 0004 0002 0000
 abbrev bytes : List ℕ
@@ -34,7 +34,7 @@ said (no a) t = absurd t
 so : (c : Claim) → T (yesb (decSays 3 (matter .records) 1 c)) → Says 3 (matter .records) 1 c
 so c = said (decSays 3 (matter .records) 1 c)
 
-led-right : Answers matter (after (noted (line (eq 1 2))) start) (ask 0 2) (field 131 (numbers (0 ∷ 1 ∷ [])))
+led-right : Answers matter (after (noted (line (eq 1 2) 0)) start) (ask 0 2) (field 131 (numbers (0 ∷ 1 ∷ [])))
 unfolding decSays
 led-right = led (so (leader 0 0) tt) (so (leader 2 1) tt)
 

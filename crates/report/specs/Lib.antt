@@ -1,3 +1,4 @@
 pub mod Broken
+pub mod Sheets
 pub mod Report
 pub mod Fault

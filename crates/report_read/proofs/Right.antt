@@ -4,7 +4,7 @@
 use Prim.Native.Nat.{ℕ, suc, _+_, _*_, _-_, _≤_, _<_}
 use native.Mathlib.Omega.{arith}
 use mathlib.Core.Path.{_≡_, refl, sym, _∙_, ap, subst}
-use mathlib.Core.List.{List, [], _∷_, _++_, append-nil}
+use mathlib.Core.List.{List, [], _∷_, _++_, append-nil, append-assoc}
 use lib.ListN.{length, drop, getD, drop-of-length-le}
 use lib.Seq.{drop-cons}
 use Rattle.meaning.specs.Following.{Follows, UpTo, Leader}
@@ -15,14 +15,15 @@ use Rattle.meaning.proofs.Laws.{classes-one, idles-one, reason-follows}
 use Rattle.meaning.proofs.Looks.{led-one}
 use Rattle.meaning.proofs.Units.{leader-one}
 use Rattle.job_field.specs.Items.{Matter, Moment, after, Question, ask, explain, broken, why, Item, posed}
-use Rattle.report.specs.Report.{numbers, field, Answers, led, because, apart, breached, intact, parted, joined, Totalled, total, Sound, totals, answered}
+use Rattle.report.specs.Report.{numbers, field, Reasoned, because, breached, Filed, Answers, led, reasoned, apart, intact, parted, joined, Totalled, total, Sound, totals, answered}
 use Rattle.report.specs.Broken.{Earliest, Unbroken, PairReason}
-use Rattle.report.specs.Fault.{Stands, stands, FaultAt, behind, spare}
+use Rattle.report.specs.Fault.{Stands, stands, FaultAt, behind, astray, spare}
 use Rattle.report_read.specs.Read.{Holds, FrontAt, whole, none}
 use Rattle.report_read.specs.declared.Front.the-variants.{Field, Cut}
 use Rattle.report.proofs.Bytes.{numbers-one, length-numbers, field-one}
 use Rattle.report.proofs.Fault.{Fielded}
 use Rattle.report.proofs.Broken.{earliest-one, earliest-some}
+use Rattle.report.proofs.Known.{no-reason}
 use Rattle.report_read.proofs.Read.{holds-rest, holds-one, field-body}
 
 -- What stands at the front of the bytes.
@@ -35,50 +36,51 @@ module _ {M : Matter} {b : Moment} {s t : ℕ} where
       let p : l′ ≡ l = leader-one h′ h in
       let q : m′ ≡ m = leader-one k′ k in
       (rest, rw (p, q))
+  ask-right h k (stands (reasoned r g) rest) = absurd (no-reason refl r)
 
   pub apart-right : {bs : List ℕ} → (Follows (UpTo (M .records) (b .records)) s t → ⊥) → Stands (Answers M b (explain s t)) bs → Begins bs (field 133 [])
-  apart-right n (stands (because r) rest) = absurd (n (reason-follows r))
+  apart-right n (stands (reasoned (because r) g) rest) = absurd (n (reason-follows r))
   apart-right n (stands (apart h) rest) = (rest, refl)
 
   -- A list that stands there is the only one that can be right.
-  pub reason-right : {bs : List ℕ} (L rest : List ℕ) → bs ≡ field 132 (numbers L) ++ rest → Stands (Answers M b (explain s t)) bs → Reason (M .head .size) (M .records) (b .records) s t L
+  pub reason-right : {bs L′ : List ℕ} (L rest : List ℕ) → bs ≡ field 132 (numbers L) ++ rest → Stands (Reasoned M b (explain s t) L′) bs → Reason (M .head .size) (M .records) (b .records) s t L
   reason-right L rest e (stands (because {L = L′} r) more) =
       let z : numbers L′ ≡ numbers L = field-one 132 132 (numbers L′) (numbers L) more rest e .1 in
       rw (numbers-one L′ L z) at r
-  reason-right L rest e (stands (apart h) more) =
-      let k : _≡_ {A = ℕ} 133 132 = field-one 133 132 [] (numbers L) more rest e .0 in
-      absurd (omega arith)
 
   -- Where the equality follows, only a list can be right.
-  pub follows-right : {bs : List ℕ} → Follows (UpTo (M .records) (b .records)) s t → Stands (Answers M b (explain s t)) bs → (L : List ℕ) × Reason (M .head .size) (M .records) (b .records) s t L × Begins bs (field 132 (numbers L))
-  follows-right f (stands (because {L = L} r) rest) = (L, r, (rest, refl))
+  pub follows-right : {bs : List ℕ} → Follows (UpTo (M .records) (b .records)) s t → Stands (Answers M b (explain s t)) bs → (L : List ℕ) × Stands (Reasoned M b (explain s t) L) bs
+  follows-right f (stands (reasoned {L = L} {f = x} {g = g} r y) rest) = (L, rw (append-assoc x g rest) (stands r (g ++ rest)))
   follows-right f (stands (apart h) rest) = absurd (h f)
 
   -- A why has one right field: the leaders are one, and following decides between the two kinds.
   pub parted-right : {bs L : List ℕ} → (Follows (UpTo (M .records) (b .records)) s t → ⊥) → Led (M .head .size) (M .head .units) (UpTo (M .records) (b .records)) L → Stands (Answers M b (why s t)) bs → Begins bs (field 136 (numbers L))
   parted-right n d (stands (parted h d′) rest) = (rest, rw (led-one d′ d))
   parted-right n d (stands (joined h) rest) = absurd (n h)
+  parted-right n d (stands (reasoned r g) rest) = absurd (no-reason refl r)
 
   pub joined-right : {bs : List ℕ} → Follows (UpTo (M .records) (b .records)) s t → Stands (Answers M b (why s t)) bs → Begins bs (field 137 [])
   joined-right f (stands (parted h d) rest) = absurd (h f)
   joined-right f (stands (joined h) rest) = (rest, refl)
+  joined-right f (stands (reasoned r g) rest) = absurd (no-reason refl r)
 
 -- A 06: where no pair is broken one field is right, and where one is, a list that begins with its number.
 module _ {M : Matter} {b : Moment} where
   pub intact-right : {bs : List ℕ} → Unbroken (M .records) (b .records) (M .pairs) (b .differs) → Stands (Answers M b broken) bs → Begins bs (field 135 [])
-  intact-right n (stands (breached e r) rest) = absurd (earliest-some e n)
+  intact-right n (stands (reasoned (breached e r) g) rest) = absurd (earliest-some e n)
   intact-right n (stands (intact u) rest) = (rest, refl)
 
-  pub broken-right : {bs : List ℕ} {k : ℕ} → Earliest (M .records) (b .records) (M .pairs) (b .differs) k → Stands (Answers M b broken) bs → (L : List ℕ) × PairReason M b k L × Begins bs (field 134 (numbers (k ∷ L)))
-  broken-right {k = k} e (stands (breached {k = k′} {L = L} e′ r) rest) = let q : k′ ≡ k = earliest-one e′ e in rw (← q) (L, r, (rest, refl))
+  -- Where a pair is broken, only a list can be right.
+  pub broken-right : {bs : List ℕ} {k : ℕ} → Earliest (M .records) (b .records) (M .pairs) (b .differs) k → Stands (Answers M b broken) bs → (L : List ℕ) × Stands (Reasoned M b broken L) bs
+  broken-right e (stands (reasoned {L = L} {f = x} {g = g} r y) rest) = (L, rw (append-assoc x g rest) (stands r (g ++ rest)))
   broken-right e (stands (intact u) rest) = absurd (earliest-some e u)
 
   -- A list that stands there is the only one that can be right.
-  pub breach-right : {bs : List ℕ} {k : ℕ} (L rest : List ℕ) → bs ≡ field 134 (numbers L) ++ rest → Earliest (M .records) (b .records) (M .pairs) (b .differs) k → Stands (Answers M b broken) bs → (K : List ℕ) × (L ≡ k ∷ K) × PairReason M b k K
-  breach-right {k = k} L rest e h s =
-      let r = broken-right h s in
-      let z : numbers (k ∷ r .0) ≡ numbers L = field-one 134 134 (numbers (k ∷ r .0)) (numbers L) (r .2 .0) rest (sym (r .2 .1) ∙ e) .1 in
-      (r .0, sym (numbers-one (k ∷ r .0) L z), r .1)
+  pub breach-right : {bs L′ : List ℕ} {k : ℕ} (L rest : List ℕ) → bs ≡ field 134 (numbers L) ++ rest → Earliest (M .records) (b .records) (M .pairs) (b .differs) k → Stands (Reasoned M b broken L′) bs → (K : List ℕ) × (L ≡ k ∷ K) × PairReason M b k K
+  breach-right {k = k} L rest e h (stands (breached {k = k′} {L = L′} e′ r) more) =
+      let q : k′ ≡ k = earliest-one e′ h in
+      let z : numbers (k′ ∷ L′) ≡ numbers L = field-one 134 134 (numbers (k′ ∷ L′)) (numbers L) more rest e .1 in
+      rw (← q) (L′, sym (numbers-one (k′ ∷ L′) L z), r)
 
 pub totals-right : {M : Matter} {bs : List ℕ} {c i : ℕ} → Classes (M .head .size) (UpTo (M .records) (length (M .records))) c → Idles (M .records) i → Stands (Totalled M) bs → Begins bs (field 143 (numbers (c ∷ i ∷ [])))
 totals-right {c = c} {i = i} h k (stands (total {c = c′} {i = i′} h′ k′) rest) =
@@ -114,6 +116,10 @@ module _ (report : List ℕ) (at : ℕ) where
 
     pub fault-on : {q : Question} {f : List ℕ} {is : List Item} {p : ℕ} → Answers M b q f → Holds report at f → FaultAt M (after (posed q) b) is (at + length f) (drop (at + length f) report) p → FaultAt M b (posed q ∷ is) at (drop at report) p
     fault-on a h f = rw h (behind a f)
+
+    -- A reason stands, and behind it not its sheets.
+    pub fault-astray : {q : Question} {L f : List ℕ} {is : List Item} → Reasoned M b q L f → Holds report at f → (Stands (Filed M L) (drop (at + length f) report) → ⊥) → FaultAt M b (posed q ∷ is) at (drop at report) (at + length f)
+    fault-astray r h n = rw h (astray r n)
 
     -- Behind the totals nothing is left, or the first of what is left is at fault.
     pub sound-end : {f : List ℕ} → Totalled M f → Holds report at f → length report ≤ at + length f → Sound M b [] (drop at report)

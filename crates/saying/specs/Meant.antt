@@ -1,7 +1,9 @@
--- Document 01, "The program": what the lines that tagcheck writes for an accepted job mean, one case for each letter. Document 02, No. 1: `C` and `K`; No. 7: `W` and `Y`.
+-- Document 01, "The program": what the lines that tagcheck writes for an accepted job mean, one case for each letter. Document 02, No. 1: `C` and `K`; No. 7: `W` and `Y`; No. 9: `H`.
 -- Assumes nothing.
 use Prim.Native.Nat.{ℕ}
+use mathlib.Core.Path.{_≡_}
 use mathlib.Core.Logic.{_≢_}
+use mathlib.Core.Bool.{true, false}
 use mathlib.Core.List.{List, [], _∷_, _++_}
 use lib.ListN.{length}
 use Rattle.meaning.specs.Following.{Follows, UpTo, Leader}
@@ -10,7 +12,13 @@ use Rattle.meaning.specs.Reasons.{Reason}
 use Rattle.meaning.specs.Totals.{Classes, Idles}
 use Rattle.job_field.specs.Items.{Matter, Note, Moment, after, ask, explain, broken, why, Item, noted, posed}
 use Rattle.report.specs.Broken.{Earliest, Unbroken, PairReason}
+use Rattle.report.specs.Sheets.{Sheets}
 use Rattle.text_line.specs.Line.{line}
+
+-- What stands behind the line of a reason. `H k` and k sheet numbers: in edition 2, the distinct sheets of that reason, rising, without 0; in edition 1 nothing.
+pub data Shelved (M : Matter) (L : List ℕ) : List ℕ → Type 0 where
+  unfiled : M .head .sheeted ≡ false → Shelved M L []
+  filed : {hs : List ℕ} → M .head .sheeted ≡ true → Sheets (M .sheets) L hs → Shelved M L (line 72 (length hs ∷ hs))
 
 -- The text of the items from a moment on: of the job's records, those before a question decide.
 pub data Meant (M : Matter) : Moment → List Item → List ℕ → Type 0 where
@@ -23,14 +31,14 @@ pub data Meant (M : Matter) : Moment → List Item → List ℕ → Type 0 where
   different : {b : Moment} {s t l m : ℕ} {is : List Item} {x : List ℕ} → Leader (M .head .units) (UpTo (M .records) (b .records)) s l → Leader (M .head .units) (UpTo (M .records) (b .records)) t m → l ≢ m
       → Meant M (after (posed (ask s t)) b) is x → Meant M b (posed (ask s t) ∷ is) (line 68 (s ∷ t ∷ l ∷ m ∷ []) ++ x)
   -- `E s t k` and k record numbers, which are a reason
-  because : {b : Moment} {s t : ℕ} {L : List ℕ} {is : List Item} {x : List ℕ} → Reason (M .head .size) (M .records) (b .records) s t L
-      → Meant M (after (posed (explain s t)) b) is x → Meant M b (posed (explain s t) ∷ is) (line 69 (s ∷ t ∷ length L ∷ L) ++ x)
+  because : {b : Moment} {s t : ℕ} {L h : List ℕ} {is : List Item} {x : List ℕ} → Reason (M .head .size) (M .records) (b .records) s t L → Shelved M L h
+      → Meant M (after (posed (explain s t)) b) is x → Meant M b (posed (explain s t) ∷ is) ((line 69 (s ∷ t ∷ length L ∷ L) ++ h) ++ x)
   -- `N s t`: explain, does not follow
   apart : {b : Moment} {s t : ℕ} {is : List Item} {x : List ℕ} → (Follows (UpTo (M .records) (b .records)) s t → ⊥)
       → Meant M (after (posed (explain s t)) b) is x → Meant M b (posed (explain s t) ∷ is) (line 78 (s ∷ t ∷ []) ++ x)
   -- `C number k` and k record numbers: the earliest pair that is broken, and a reason why its tags are equal
-  breached : {b : Moment} {k : ℕ} {L : List ℕ} {is : List Item} {x : List ℕ} → Earliest (M .records) (b .records) (M .pairs) (b .differs) k → PairReason M b k L
-      → Meant M (after (posed broken) b) is x → Meant M b (posed broken ∷ is) (line 67 (k ∷ length L ∷ L) ++ x)
+  breached : {b : Moment} {k : ℕ} {L h : List ℕ} {is : List Item} {x : List ℕ} → Earliest (M .records) (b .records) (M .pairs) (b .differs) k → PairReason M b k L → Shelved M L h
+      → Meant M (after (posed broken) b) is x → Meant M b (posed broken ∷ is) ((line 67 (k ∷ length L ∷ L) ++ h) ++ x)
   -- `K`: no pair is broken
   intact : {b : Moment} {is : List Item} {x : List ℕ} → Unbroken (M .records) (b .records) (M .pairs) (b .differs)
       → Meant M (after (posed broken) b) is x → Meant M b (posed broken ∷ is) (line 75 [] ++ x)

@@ -26,9 +26,9 @@ pub data Says (job : List ℕ) (room numbers : ℕ) : List ℕ → Type 0 where
       → Meant (matterOf H items) start items text → Says job room numbers text
   refuses : {n p : ℕ} → Refuses job room numbers n p → Says job room numbers (line 82 (n ∷ p ∷ []))
 
--- What is told is true of the job. A room of 60,000 bytes at most gives no text that 206,014 bytes do not hold.
+-- What is told is true of the job. A room of 60,000 bytes at most gives no text that 214,014 bytes do not hold.
 pub record True (job room work out out′ : List ℕ) (told : Told) : Type 0 where
   pub text : List ℕ
   pub says : Says job (length room) (length work) text
   pub tells : Tells text out out′ told
-  pub fits : length room ≤ 60000 → 206014 ≤ length out → told ≡ Whole (length text)
+  pub fits : length room ≤ 60000 → 214014 ≤ length out → told ≡ Whole (length text)

@@ -14,7 +14,7 @@ use Rattle.script_meaning.specs.Reading.{Got, got, reading}
 use Rattle.script_meaning.specs.Bytes.{two, fieldOf, fieldsOf, jobOf}
 use Rattle.script_meaning.proofs.Laws.{Limits, reading-limits}
 use Rattle.job_field.specs.Items as job
-use Rattle.job_field.specs.Reading.{Field, header, item, end, behindAt, fieldAt, orElse, counted, sizeRight, sized, tagged, checked, with as before, behind, onward, readFrom, reading as job-reading}
+use Rattle.job_field.specs.Reading.{Field, header, item, end, behindAt, fieldAt, orElse, counted, sizeRight, sized, tagged, filed, sheetedIn, checked, with as before, behind, onward, readFrom, reading as job-reading}
 use Rattle.job_field.specs.Standing.{Below}
 use Rattle.job_field.proofs.Items.{after-records, after-differs, after-questions}
 use Rattle.script_written.specs.Written.{itemOf, headFor, itemsFor}
@@ -45,33 +45,42 @@ count-pass b (job.noted n) is F =
     (leb-yes (b .differs + length (job.pairsIn n)) 500 (omega (arith, F .differs, length-append (job.pairsIn n) (job.pairsOf is))))
 count-pass b (job.posed q) is F = ltb-yes {m = b .questions} {n = 1000} (omega (arith, F .questions))
 
-item-pass : (H : job.Head) (b : job.Moment) (i : job.Item) (is : List job.Item) → Fits b (i ∷ is) → Below (H .size) (job.tagsOf i) → checked H b (item i) ≡ item i
+item-pass : (H : job.Head) (b : job.Moment) (i : job.Item) (is : List job.Item) → Fits b (i ∷ is) → Below (H .size) (job.tagsOf i) → filed (item i) ≡ true → checked H b (item i) ≡ item i
 unfolding checked
-item-pass H b i is F t = or-else (counted b (item i)) 7 (tagged (H .size) 11 (job.tagsOf i) (item i)) (count-pass b i is F) ∙ tags-pass (H .size) 11 (job.tagsOf i) (item i) t
+item-pass H b i is F t v =
+    or-else (counted b (item i)) 7 (tagged (H .size) 11 (job.tagsOf i) (orElse (filed (item i)) 17 (item i))) (count-pass b i is F)
+    ∙ tags-pass (H .size) 11 (job.tagsOf i) (orElse (filed (item i)) 17 (item i)) t
+    ∙ or-else (filed (item i)) 17 (item i) v
+
+-- No record of a script has a sheet.
+unfiled : (x : Item) → filed (item (itemOf x)) ≡ true
+unfiled (noted r) = refl
+unfiled (differing a b) = refl
+unfiled checking = refl
 
 end-pass : (H : job.Head) (b : job.Moment) → checked H b end ≡ end
 unfolding checked
 end-pass H b = refl
 
 -- Reading on from a place where the fields of some items stand.
-written-from : (n : ℕ) (is : List Item) (pre : List ℕ) (at : ℕ) (H : job.Head) (b : job.Moment) → at ≡ length pre → 0 < at → length is < n → Each (H .size) is → Fits b (map itemOf is)
+written-from : (n : ℕ) (is : List Item) (pre : List ℕ) (at : ℕ) (H : job.Head) (b : job.Moment) → at ≡ length pre → 0 < at → ((l : List ℕ) → sheetedIn (pre ++ l) ≡ false) → length is < n → Each (H .size) is → Fits b (map itemOf is)
     → readFrom n (pre ++ fieldsOf is) H b at ≡ job.accepted H (map itemOf is)
 unfolding readFrom
-written-from zero is pre at H b e s l E F = absurd (omega arith)
-written-from (suc n) [] pre at H b e s l E F =
+written-from zero is pre at H b e s u l E F = absurd (omega arith)
+written-from (suc n) [] pre at H b e s u l E F =
     let bytes : List ℕ = pre ++ (127 ∷ 0 ∷ 0 ∷ []) in
-    let R = end-read pre at e s in
+    let R = end-read pre at e s u in
     let m : length bytes ≡ length pre + 3 = length-append pre (127 ∷ 0 ∷ 0 ∷ []) in
     ap (λ f. onward (readFrom n bytes) bytes H b at (checked H b f)) (R .says) ∙ ap (onward (readFrom n bytes) bytes H b at) (end-pass H b)
     ∙ ap (λ t. cond t (job.accepted H []) (job.refused 8 (behindAt bytes at))) (leb-yes (length bytes) (behindAt bytes at) (omega (arith, R .behind)))
-written-from (suc n) (i ∷ is) pre at H b e s l (more t E) F =
+written-from (suc n) (i ∷ is) pre at H b e s u l (more t E) F =
     let bytes : List ℕ = pre ++ (fieldOf i ++ fieldsOf is) in
-    let R = item-read pre at e s i (fieldsOf is) in
+    let R = item-read pre at e s u i (fieldsOf is) in
     let m : length (pre ++ fieldOf i) ≡ length pre + length (fieldOf i) = length-append pre (fieldOf i) in
     let again : readFrom n bytes H (job.after (itemOf i) b) (behindAt bytes at) ≡ job.accepted H (map itemOf is) =
     ap (readFrom n bytes H (job.after (itemOf i) b)) (R .behind) ∙ ap (λ l. readFrom n l H (job.after (itemOf i) b) (at + length (fieldOf i))) (sym (append-assoc pre (fieldOf i) (fieldsOf is)))
-    ∙ written-from n is (pre ++ fieldOf i) (at + length (fieldOf i)) H (job.after (itemOf i) b) (omega arith) (omega arith) (omega arith) E (fits-on b (itemOf i) (map itemOf is) F) in
-    ap (λ f. onward (readFrom n bytes) bytes H b at (checked H b f)) (R .says) ∙ ap (onward (readFrom n bytes) bytes H b at) (item-pass H b (itemOf i) (map itemOf is) F t)
+    ∙ written-from n is (pre ++ fieldOf i) (at + length (fieldOf i)) H (job.after (itemOf i) b) (omega arith) (omega arith) (λ (x : List ℕ). ap sheetedIn (append-assoc pre (fieldOf i) x) ∙ u (fieldOf i ++ x)) (omega arith) E (fits-on b (itemOf i) (map itemOf is) F) in
+    ap (λ f. onward (readFrom n bytes) bytes H b at (checked H b f)) (R .says) ∙ ap (onward (readFrom n bytes) bytes H b at) (item-pass H b (itemOf i) (map itemOf is) F t (unfiled i))
     ∙ ap (before (itemOf i)) again
 
 fields-long : (is : List Item) → length is < length (fieldsOf is)
@@ -105,4 +114,4 @@ written-reads s {cs} e =
     ap (λ f. onward (readFrom (length bytes) bytes) bytes job.unsized job.start 0 (checked job.unsized job.start f)) (R .says)
     ∙ ap (onward (readFrom (length bytes) bytes) bytes job.unsized job.start 0) (header-pass H (L .some) (L .tags) (omega arith))
     ∙ ap (readFrom (length bytes) bytes H job.start) (R .behind)
-    ∙ written-from (length bytes) is (16 ∷ 0 ∷ 2 ∷ N / 256 ∷ N % 256 ∷ []) 5 H job.start refl (omega arith) (omega (arith, fields-long is)) (reading-each s e) F
+    ∙ written-from (length bytes) is (16 ∷ 0 ∷ 2 ∷ N / 256 ∷ N % 256 ∷ []) 5 H job.start refl (omega arith) (λ (x : List ℕ). refl) (omega (arith, fields-long is)) (reading-each s e) F

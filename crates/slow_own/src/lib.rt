@@ -35,6 +35,7 @@ fn none() -> Record
         a: NO_TAG,
         b: NO_TAG,
         c: NO_TAG,
+        sheet: 0,
     }
 }
 

@@ -12,7 +12,7 @@ use Rattle.meaning.specs.Following.{Rec, eq, app}
 use Rattle.meaning.specs.Joins.{Join, by, cong}
 use Rattle.meaning.proofs.Reference.{Small}
 use Rattle.meaning.specs.Limits.{mostRecords, mostTags}
-use Rattle.table.specs.Places.{AGE, BUCKETS, CHAIN, EQUATION, FIRST, FRONT, HEADS, LABEL, LEFT, LIST, Large, MARKS, MEMBER, NEXT, PARENT, Part, QUEUE, RESULT, RIGHT, Region, SAVED, SECOND, TRAIL, WAITS, WHEN, beforeAt, columnSize, endAt, frontSize, moreAt, plain, useAt, SINCE}
+use Rattle.table.specs.Places.{AGE, BUCKETS, CHAIN, EQUATION, FIRST, FRONT, HEADS, LABEL, LEFT, LIST, Large, MARKS, MEMBER, NEXT, PARENT, Part, QUEUE, RESULT, RIGHT, Region, SAVED, SECOND, TRAIL, WAITS, WHEN, beforeAt, columnSize, endAt, frontSize, moreAt, plain, useAt, SINCE, SHEETS, FILED, HUNDREDS}
 
 -- A region as a function from its own numbers.
 unfoldable pub seen : Region → List ℕ → ℕ → ℕ
@@ -119,6 +119,16 @@ waitOf w r = stateOf w r - WAITS
 abbrev pub bucketOf : List ℕ → ℕ → ℕ
 bucketOf w = seen BUCKETS w
 
+-- While the sheets of a reason are found. By place: a sheet. By sheet: 1 where it is filed. By hundred of sheets: 1 where its places by sheet are in use.
+abbrev pub sheetOf : List ℕ → ℕ → ℕ
+sheetOf w = seen SHEETS w
+
+abbrev pub filedOf : List ℕ → ℕ → ℕ
+filedOf w = seen FILED w
+
+abbrev pub hundredOf : List ℕ → ℕ → ℕ
+hundredOf w = seen HUNDREDS w
+
 -- The first n values of f, in order.
 abbrev pub gather : {A : Type 0} → (ℕ → A) → ℕ → List A
 gather f zero = []
@@ -133,6 +143,10 @@ recordsIn n w = gather (λ k. recAt w (suc k)) n
 
 abbrev pub listIn : ℕ → List ℕ → List ℕ
 listIn n w = gather (listOf w) n
+
+-- The first n of the sheets.
+abbrev pub sheetsIn : ℕ → List ℕ → List ℕ
+sheetsIn n w = gather (sheetOf w) n
 
 -- The join of age a: of the two tags of an equation, or of the results of two applications.
 abbrev pub joinBy : List ℕ → ℕ → ℕ → Join

@@ -170,6 +170,24 @@ useAt second = cond second (SHARES .at) (USES .at)
 abbrev pub moreAt : Bool → ℕ
 moreAt second = cond second (OTHER .at) (MORE .at)
 
+-- While the sheets of a reason are found (document 02, No. 9) other regions stand behind the front of the list, where the reason is. By place: the sheets,
+-- rising. By sheet, and place 0 is none's: 1 where the sheet is filed. By hundred of sheets, from 1 to 100, from 101 to 200 and so on: 1 where its places by
+-- sheet are in use.
+abbrev pub hundredSize : ℕ
+hundredSize = 100
+
+abbrev pub hundredCount : ℕ
+hundredCount = 100
+
+abbrev pub SHEETS : Region
+SHEETS = record { at = 19003; size = frontSize; past = λ x. 0 }
+
+abbrev pub FILED : Region
+FILED = record { at = 21003; size = 1 + hundredCount * hundredSize; past = λ x. 0 }
+
+abbrev pub HUNDREDS : Region
+HUNDREDS = record { at = 31004; size = hundredCount; past = λ x. 0 }
+
 -- A part of the table: from a place up to another, which is not in it.
 pub record Part : Type 0 where
   pub from : ℕ
@@ -258,3 +276,10 @@ halvePart = fromTo (LIST .at) (QUEUE .at + QUEUE .size)
 -- And with all before it behind the columns.
 abbrev pub beforeHalved : Part
 beforeHalved = fromTo (PARENT .at) (QUEUE .at + QUEUE .size)
+
+-- What finding the sheets of a reason writes: what is filed; and that with the sheets.
+abbrev pub filedPart : Part
+filedPart = fromTo (FILED .at) (HUNDREDS .at + HUNDREDS .size)
+
+abbrev pub sheetsPart : Part
+sheetsPart = fromTo (SHEETS .at) (HUNDREDS .at + HUNDREDS .size)

@@ -7,7 +7,7 @@ use console::write_output_front;
 use saying::answer_job;
 use text::Told;
 
-// A text that is whole goes to standard output. Full is never answered here: 60,000 bytes of room and 206,014 of text are what the contract of
+// A text that is whole goes to standard output. Full is never answered here: 60,000 bytes of room and 214,014 of text are what the contract of
 // answer_job asks for that.
 fn write(text: &[u8], told: Told) {
     match told {
@@ -28,7 +28,7 @@ fn serve(job: &[u8]) {
     let room: &mut [u8] = &mut room_space;
     let mut work_space = [0u16; 32768];
     let work: &mut [u16] = &mut work_space;
-    let mut text_space = [0u8; 206014];
+    let mut text_space = [0u8; 214014];
     let text: &mut [u8] = &mut text_space;
     let told = answer_job(job, room, work, text);
     write(text, told);
@@ -41,9 +41,9 @@ fn front(kept: &[u8], n: usize) {
     }
 }
 
-// Keeps at most 46,511 bytes of standard input, one more than the longest job allowed.
+// Keeps at most 54,511 bytes of standard input, one more than the longest job allowed.
 fn main() {
-    let mut space = [0u8; 46511];
+    let mut space = [0u8; 54511];
     let kept: &mut [u8] = &mut space;
     let got = read_input(kept);
     match got {

@@ -40,7 +40,7 @@ fn tell(job: &[u8]) {
     let room: &mut [u8] = &mut room_space;
     let mut work_space = [0u16; 32768];
     let work: &mut [u16] = &mut work_space;
-    let mut text_space = [0u8; 206014];
+    let mut text_space = [0u8; 214014];
     let text: &mut [u8] = &mut text_space;
     let told = answer_sheet(job, room, work, text);
     write(text, told);
@@ -93,9 +93,9 @@ fn front(kept: &[u8], n: usize, wanted: Wanted) {
     }
 }
 
-// Keeps at most 46,511 bytes of standard input, one more than the longest job allowed.
+// Keeps at most 54,511 bytes of standard input, one more than the longest job allowed.
 fn run(wanted: Wanted) {
-    let mut space = [0u8; 46511];
+    let mut space = [0u8; 54511];
     let kept: &mut [u8] = &mut space;
     let got = read_input(kept);
     match got {
@@ -180,9 +180,10 @@ fn with_space(job: &[u8], kept: &mut [u8]) {
     }
 }
 
-// Keeps at most 4,001,008 bytes of the report, as tagrecheck does.
+// Keeps at most 4,004,008 bytes of the report, one more than the longest sound one has: 1,000 broken pairs with reasons of 999 numbers on as many sheets, and the totals. A reason of
+// the fewest records is a way that comes to no tag twice.
 fn with_job(job: &[u8]) {
-    let mut space = [0u8; 4001008];
+    let mut space = [0u8; 4004008];
     with_space(job, &mut space);
 }
 
@@ -193,9 +194,9 @@ fn job_front(kept: &[u8], n: usize) {
     }
 }
 
-// Keeps at most 46,511 bytes of the job, one more than the longest job allowed.
+// Keeps at most 54,511 bytes of the job, one more than the longest job allowed.
 fn recheck() {
-    let mut space = [0u8; 46511];
+    let mut space = [0u8; 54511];
     let kept: &mut [u8] = &mut space;
     let got = read_file(2, kept);
     match got {

@@ -81,10 +81,10 @@ fn with_space(job: &[u8], kept: &mut [u8]) {
     }
 }
 
-// Keeps at most 4,001,008 bytes of the report, one more than the longest sound one has: 1,000 broken pairs with reasons of 1,998 numbers, and the totals. Of a longer one the first
+// Keeps at most 8,000,008 bytes of the report, one more than the longest sound one has: 1,000 broken pairs with reasons of 1,998 numbers on as many sheets, and the totals. Of a longer one the first
 // field at fault begins among these, and is at fault there too.
 fn with_job(job: &[u8]) {
-    let mut space = [0u8; 4001008];
+    let mut space = [0u8; 8000008];
     with_space(job, &mut space);
 }
 
@@ -95,9 +95,9 @@ fn front(kept: &[u8], n: usize) {
     }
 }
 
-// Keeps at most 46,511 bytes of the job, one more than the longest job allowed.
+// Keeps at most 54,511 bytes of the job, one more than the longest job allowed.
 fn recheck() {
-    let mut space = [0u8; 46511];
+    let mut space = [0u8; 54511];
     let kept: &mut [u8] = &mut space;
     let got = read_file(1, kept);
     match got {

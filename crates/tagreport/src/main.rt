@@ -46,9 +46,9 @@ fn front(kept: &[u8], n: usize) {
     }
 }
 
-// Keeps at most 46,511 bytes of standard input, one more than the longest job allowed.
+// Keeps at most 54,511 bytes of standard input, one more than the longest job allowed.
 fn main() {
-    let mut space = [0u8; 46511];
+    let mut space = [0u8; 54511];
     let kept: &mut [u8] = &mut space;
     let got = read_input(kept);
     match got {

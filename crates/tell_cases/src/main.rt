@@ -76,6 +76,22 @@ fn broken() {
     report(b"cut_in_a_pair\n", job, b"\x87\x00\x00\x86\x00\x04\x00\x02");
 }
 
+// Document 02, No. 9: the sheets of each reason behind it, and none behind a 87; a reason whose sheets are cut.
+fn sheets() {
+    let job =
+        b"\x11\x00\x04\x00\x04\x00\x04\x05\x00\x04\x00\x00\x00\x01\x06\x00\x00\x01\x00\x06\x00\x02\x00\x00\x27\x0F\x01\x00\x06\x00\x02\x00\x01\x00\x01\x06\x00\x00\x7F\x00\x00";
+    report(
+        b"sheets\n",
+        job,
+        b"\x87\x00\x00\x86\x00\x06\x00\x01\x00\x01\x00\x02\x8A\x00\x04\x00\x01\x27\x0F\x8F\x00\x04\x00\x02\x00\x00",
+    );
+    report(
+        b"cut_in_the_sheets\n",
+        job,
+        b"\x87\x00\x00\x86\x00\x06\x00\x01\x00\x01\x00\x02\x8A\x00\x04\x00",
+    );
+}
+
 // What is not there counts as 0, and of a body only the whole numbers that are there.
 fn cut() {
     let job =
@@ -124,6 +140,7 @@ fn main() {
     digits();
     small();
     broken();
+    sheets();
     cut();
     refusals();
     rooms();

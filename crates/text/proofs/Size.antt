@@ -6,7 +6,7 @@ use native.Mathlib.Omega.{arith}
 use native.Mathlib.Decide.{decLt}
 use mathlib.Core.Path.{_≡_, refl, _∙_, ap}
 use mathlib.Core.Bool.{Bool, true, false, cond}
-use mathlib.Core.List.{List, [], _∷_}
+use mathlib.Core.List.{List, [], _∷_, _++_}
 use lib.Dec.{eqb}
 use lib.ListN.{length, getD, take, drop, length-append, length-take, length-drop, List·getD-eq-default}
 use lib.Seq.{getD-drop, getD-take}
@@ -17,7 +17,7 @@ use Rattle.job_field.specs.Standing.{Below, Stands, ends, next}
 use Rattle.job_field.proofs.Standing.{accepted-stands}
 use Rattle.text_line.specs.Digits.{digits}
 use Rattle.text_line.specs.Line.{parted, line, askLine}
-use Rattle.text_field.specs.Fields.{numbersIn, partOf, bodyOf, explainLine, brokenLine, whyLine, questionLine, totalsLine}
+use Rattle.text_field.specs.Fields.{numbersIn, partOf, bodyOf, explainLine, brokenLine, whyLine, questionLine, fieldWidth, behindField, sheetsDue, sheetsLine, lineOf, widthOf, totalsLine}
 use Rattle.text.specs.Lines.{linesOf, refusalLine}
 use Rattle.text_line.proofs.Digits.{digits-one, digits-more}
 use Rattle.text_field.proofs.Parts.{length-numbers}
@@ -142,23 +142,45 @@ question-size report b N (explain x y) small t = omega (arith, explain-size repo
 question-size report b N broken small t = omega (arith, broken-size report b (byteAt report 0))
 question-size report b N (why x y) small t = omega (arith, why-size report b x y (byteAt report 0) (omega (arith, t .0)) (omega (arith, t .1 .0)))
 
--- The lines of the items that stand in a job: three bytes for each byte of the report, and 26 for each question.
-lines-size : (job : List ℕ) (N at : ℕ) (items : List Item) → N ≤ mostTags → Stands job N at items → (report : List ℕ) → Bytes report
-    → length (linesOf items report) ≤ 3 * length report + 26 * questionsOf items + 14
-unfolding linesOf totalsLine
-lines-size job N at items small (ends e l) report b = omega (arith, pair-size 84 (numberAt report 3) (numberAt report 5) (number-small report b 3) (number-small report b 5))
-lines-size job N at items small (next {i = noted n} {is = is} e t l s) report b = lines-size job N (behindAt job at) is small s report b
-lines-size job N at items small (next {i = posed q} {is = is} e t l s) report b =
-    let w : ℕ = 3 + numberAt report 1 in
-    omega (arith, length-append (questionLine q report) (linesOf is (drop w report)), length-drop w report, length-part report b 3, question-size report b N q small t, lines-size job N (behindAt job at) is small s (drop w report) (bytes-drop w report b))
+-- The line of the sheets: three bytes for each byte of their field's body, and 8 more.
+sheets-size : (report : List ℕ) → Bytes report → length (sheetsLine report) ≤ 8 + 3 * length (bodyOf report)
+unfolding sheetsLine
+sheets-size report b =
+    let ns : List ℕ = numbersIn (bodyOf report) in
+    let many : length ns < 65536 = omega (arith, length-numbers (bodyOf report), length-part report b 3, number-small report b 1) in
+    omega (arith, line-size 72 (length ns ∷ ns), parted-more (length ns) ns, digits-five (length ns) many, numbers-size (bodyOf report) (part-bytes report b 3))
 
--- A report of at most 60,000 bytes has a text of at most 206,014.
-pub report-size : (job : List ℕ) (H : Head) (items : List Item) → reading job ≡ accepted H items → (report : List ℕ) → Bytes report → length report ≤ 60000 → length (linesOf items report) ≤ 206014
+-- The lines of a question and what stands behind its fields: three bytes for each byte of the report before that, and 34 more.
+answer-size : (e : Bool) (report : List ℕ) → Bytes report → (N : ℕ) (q : Question) → N ≤ mostTags → Below N (tagsOfQuestion q)
+    → length (lineOf e (posed q) report) + 3 * length (drop (widthOf e (posed q) report) report) ≤ 3 * length report + 34
+answer-size e report b N q small t = go (sheetsDue e report)
+  where
+    rest : List ℕ
+    rest = behindField report
+
+    go : (d : Bool) → length (questionLine q report ++ cond d (sheetsLine rest) []) + 3 * length (drop (fieldWidth report + cond d (fieldWidth rest) 0) report) ≤ 3 * length report + 34
+    go false = omega (arith, length-append (questionLine q report) [], length-drop (fieldWidth report + 0) report, length-part report b 3, question-size report b N q small t)
+    go true =
+        let c : Bytes rest = bytes-drop (fieldWidth report) report b in
+        omega (arith, length-append (questionLine q report) (sheetsLine rest), length-drop (fieldWidth report + fieldWidth rest) report, length-drop (fieldWidth report) report, length-part report b 3, question-size report b N q small t, length-part rest c 3, sheets-size rest c)
+
+-- The lines of the items that stand in a job: three bytes for each byte of the report, and 34 for each question.
+lines-size : (v : Bool) (job : List ℕ) (N at : ℕ) (items : List Item) → N ≤ mostTags → Stands job N at items → (report : List ℕ) → Bytes report
+    → length (linesOf v items report) ≤ 3 * length report + 34 * questionsOf items + 14
+unfolding linesOf totalsLine
+lines-size v job N at items small (ends e l) report b = omega (arith, pair-size 84 (numberAt report 3) (numberAt report 5) (number-small report b 3) (number-small report b 5))
+lines-size v job N at items small (next {i = noted n} {is = is} e t f l s) report b = lines-size v job N (behindAt job at) is small s report b
+lines-size v job N at items small (next {i = posed q} {is = is} e t f l s) report b =
+    let rest : List ℕ = drop (widthOf v (posed q) report) report in
+    omega (arith, length-append (lineOf v (posed q) report) (linesOf v is rest), answer-size v report b N q small t, lines-size v job N (behindAt job at) is small s rest (bytes-drop (widthOf v (posed q) report) report b))
+
+-- A report of at most 60,000 bytes has a text of at most 214,014.
+pub report-size : (job : List ℕ) (H : Head) (items : List Item) → reading job ≡ accepted H items → (report : List ℕ) → Bytes report → length report ≤ 60000 → length (linesOf (H .sheeted) items report) ≤ 214014
 report-size job H items e report b h =
     let j = accepted-stands job H items e in
-    omega (arith, j .questions, lines-size job (H .size) (behindAt job 0) items (j .most) (j .stands) report b)
+    omega (arith, j .questions, lines-size (H .sheeted) job (H .size) (behindAt job 0) items (j .most) (j .stands) report b)
 
 -- A refusal is a short line, whatever its number and place.
-pub refusal-size : (number place : ℕ) → number < 256 → place < 18446744073709551616 → length (refusalLine number place) ≤ 206014
+pub refusal-size : (number place : ℕ) → number < 256 → place < 18446744073709551616 → length (refusalLine number place) ≤ 214014
 unfolding refusalLine
 refusal-size number place h k = omega (arith, line-size 82 (number ∷ place ∷ []), parted-more number (place ∷ []), parted-more place [], parted-none, digits-five number (omega arith), digits-few 19 place (omega arith))

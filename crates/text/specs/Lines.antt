@@ -2,16 +2,17 @@
 -- their report, byte by byte.
 -- Assumes nothing.
 use Prim.Native.Nat.{ℕ}
+use mathlib.Core.Bool.{Bool}
 use mathlib.Core.List.{List, [], _∷_, _++_}
 use lib.ListN.{drop}
-use Rattle.job_field.specs.Items.{Item, Reading, refused, accepted}
+use Rattle.job_field.specs.Items.{Head, Item, Reading, refused, accepted}
 use Rattle.text_line.specs.Line.{line}
 use Rattle.text_field.specs.Fields.{lineOf, widthOf, totalsLine}
 
--- The lines of a job's items in order, and the totals: one report field for each question in order, then the totals.
-unfoldable pub linesOf : List Item → List ℕ → List ℕ
-linesOf [] report = totalsLine report
-linesOf (i ∷ is) report = lineOf i report ++ linesOf is (drop (widthOf i report) report)
+-- The lines of a job's items in order, in its edition, and the totals: the report's fields for each question in order, then the totals.
+unfoldable pub linesOf : Bool → List Item → List ℕ → List ℕ
+linesOf e [] report = totalsLine report
+linesOf e (i ∷ is) report = lineOf e i report ++ linesOf e is (drop (widthOf e i report) report)
 
 -- The single line `R number place`.
 unfoldable pub refusalLine : ℕ → ℕ → List ℕ
@@ -20,4 +21,4 @@ refusalLine number place = line 82 (number ∷ place ∷ [])
 -- The text of a job as it is read, with its report.
 abbrev pub textOf : Reading → List ℕ → List ℕ
 textOf (refused number place) report = refusalLine number place
-textOf (accepted H items) report = linesOf items report
+textOf (accepted H items) report = linesOf (H .sheeted) items report

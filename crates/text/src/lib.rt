@@ -1,6 +1,6 @@
 // The lines that tagcheck writes: those of a report, or the line of a refusal. Document 01, "The program". A job and its report go in, and the text comes
 // out in a room of bytes; nothing here reads or writes a file. Rests on job_field, job_read, text_line and text_field.
-ghost use Rattle.job_field.specs.Reading.{reading, itemsIn};
+ghost use Rattle.job_field.specs.Reading.{reading, headIn, itemsIn};
 ghost use Rattle.text_line.specs.Put.{Put};
 ghost use Rattle.text.specs.Lines.{linesOf, refusalLine, textOf};
 ghost use Rattle.text.specs.Told.{Tells, Ended, Accepted};
@@ -9,6 +9,7 @@ ghost use Rattle.text.specs.Answered.{Answered};
 use job_field::behind;
 use job_field::number_of;
 use job_field::read;
+use job_field::sheeted;
 use job_read::Answer;
 use job_read::read_job;
 use text_field::passed;
@@ -24,16 +25,17 @@ pub enum Told {
 // The lines of an accepted job: field after field of the job, from behind the first one, with the report's fields beside them.
 fn put_items(job: &[u8], report: &[u8], out: &mut [u8]) -> usize
     requires { ⌜ Accepted (now job) ⌝ }
-    ensures { λ r. ⌜ Put (linesOf (itemsIn (now (job .entry))) (now (report .entry))) (now (out .entry)) 0 (now (out .exit)) r ⌝ }
+    ensures { λ r. ⌜ Put (linesOf (headIn (now (job .entry)) .sheeted) (itemsIn (now (job .entry))) (now (report .entry))) (now (out .entry)) 0 (now (out .exit)) r ⌝ }
 {
+    let edition = sheeted(job);
     let mut at = behind(job, 0);
     let mut from = 0;
     let mut next = 0;
     while at < job.len() {
         let field = read(job, at);
         let rest = &report[from..];
-        next = put_field(field, rest, out, next);
-        from += passed(field, rest);
+        next = put_field(edition, field, rest, out, next);
+        from += passed(edition, field, rest);
         at = behind(job, at);
     }
     next
@@ -68,6 +70,7 @@ pub fn tell_report(job: &[u8], report: &[u8], out: &mut [u8]) -> Told
         Answer::Accepted {
             size: _,
             units: _,
+            sheeted: _,
             records: _,
             questions: _,
             room: _,

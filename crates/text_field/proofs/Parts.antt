@@ -5,13 +5,15 @@ use native.Mathlib.Omega.{arith}
 use mathlib.Core.Path.{_≡_, refl, sym, _∙_, ap}
 use mathlib.Core.List.{List, [], _∷_, _++_}
 use native.Mathlib.Decide.{decLe}
-use lib.ListN.{length, getD, take, drop, length-take, drop-of-length-le}
+use lib.ListN.{length, getD, take, drop, length-take, length-drop, drop-of-length-le}
+use borrow.Rule.Slice.PartAt.{part-to-end}
+use mathlib.Core.Bool.{Bool, true, false, cond}
 use lib.Seq.{slice, slice-cons, slice-empty, length-slice, take-all}
 use Rattle.job_field.specs.Reading.{numberAt}
 use borrow.Author.Tests.{eq-eqb, ne-eqb}
 use Rattle.text_line.specs.Line.{parted, line, askLine}
 use Rattle.text_line.proofs.Parted.{parted-append}
-use Rattle.text_field.specs.Fields.{numbersIn, partOf, explainLine, brokenLine, whyLine}
+use Rattle.text_field.specs.Fields.{numbersIn, partOf, explainLine, brokenLine, whyLine, fieldWidth, behindField, sheetsDue, sheetsLine}
 
 pub length-numbers : (bytes : List ℕ) → length (numbersIn bytes) ≡ length bytes / 2
 unfolding numbersIn
@@ -92,3 +94,33 @@ explain-as b ns p q = cc
 
 pub why-as : {s s′ t t′ : ℕ} (b : ℕ) (ns : List ℕ) → s ≡ s′ → t ≡ t′ → whyLine s t b ns ≡ whyLine s′ t′ b ns
 why-as b ns p q = cc
+
+-- What stands behind the first field, as far as that is there.
+pub drop-min : (n : ℕ) (bytes : List ℕ) → drop (min n (length bytes)) bytes ≡ drop n bytes
+drop-min n bytes = go (decLe n (length bytes))
+  where
+    go : Dec (n ≤ length bytes) → drop (min n (length bytes)) bytes ≡ drop n bytes
+    go (yes h) = let e : min n (length bytes) ≡ n = omega arith in rw e
+    go (no h) =
+        let e : min n (length bytes) ≡ length bytes = omega arith in
+        let l : length bytes ≤ length bytes = omega arith in
+        let k : length bytes ≤ n = omega arith in
+        rw e (drop-of-length-le bytes l ∙ sym (drop-of-length-le bytes k))
+
+pub behind-is : (report : List ℕ) (first : ℕ) → first ≡ min (fieldWidth report) (length report) → take (length report - first) (drop first report) ≡ behindField report
+behind-is report first e = part-to-end report first ∙ ap (λ (k : ℕ). drop k report) e ∙ drop-min (fieldWidth report) report
+
+-- The line of sheets, and the width of their field, where one is due and where none is.
+pub due-line : (e : Bool) (report rest : List ℕ) → sheetsDue e report ≡ true → rest ≡ behindField report → sheetsLine rest ≡ cond (sheetsDue e report) (sheetsLine (behindField report)) []
+due-line e report rest d q = rw (d, q)
+
+pub none-line : (e : Bool) (report : List ℕ) → sheetsDue e report ≡ false → [] ≡ cond (sheetsDue e report) (sheetsLine (behindField report)) []
+none-line e report d = rw d
+
+pub due-width : (e : Bool) (report : List ℕ) (first second : ℕ) → sheetsDue e report ≡ true → first ≡ min (fieldWidth report) (length report) → second ≡ min (fieldWidth (behindField report)) (length (behindField report))
+    → first + second ≡ min (fieldWidth report + cond (sheetsDue e report) (fieldWidth (behindField report)) 0) (length report)
+due-width e report first second d p q = rw d (omega (arith, length-drop (fieldWidth report) report))
+
+pub none-width : (e : Bool) (report : List ℕ) (first : ℕ) → sheetsDue e report ≡ false → first ≡ min (fieldWidth report) (length report)
+    → first ≡ min (fieldWidth report + cond (sheetsDue e report) (fieldWidth (behindField report)) 0) (length report)
+none-width e report first d p = rw d (omega arith)

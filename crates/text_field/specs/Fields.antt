@@ -1,9 +1,9 @@
 -- Document 01, "The program": tagcheck writes one line an item, fields parted by one space, decimal. The line of one item by the report from the
--- item's field on, byte by byte. Document 02, No. 1: the lines `C` and `K`.
+-- item's field on, byte by byte. Document 02, No. 1: the lines `C` and `K`; No. 9: the line `H`.
 -- Assumes nothing.
 use Prim.Native.Nat.{ℕ, _+_, _*_}
-use mathlib.Core.Bool.{cond}
-use mathlib.Core.List.{List, [], _∷_}
+use mathlib.Core.Bool.{Bool, cond, _&&_, _||_}
+use mathlib.Core.List.{List, [], _∷_, _++_}
 use lib.Dec.{eqb}
 use lib.ListN.{length, take, drop}
 use Rattle.job_field.specs.Items.{Question, ask, explain, broken, why, Item, noted, posed}
@@ -43,29 +43,44 @@ questionLine (explain s t) report = explainLine s t (byteAt report 0) (numbersIn
 questionLine broken report = brokenLine (byteAt report 0) (numberAt report 3) (numbersIn (partOf 5 report))
 questionLine (why s t) report = whyLine s t (byteAt report 0) (numbersIn (bodyOf report))
 
--- The line of an item: a note has none.
-abbrev pub lineOf : Item → List ℕ → List ℕ
-lineOf (noted n) report = []
-lineOf (posed q) report = questionLine q report
+-- The first field of the report, in bytes, and what stands behind it.
+abbrev pub fieldWidth : List ℕ → ℕ
+fieldWidth report = 3 + numberAt report 1
 
--- The bytes of an item's field in the report: a question has one field, a note none.
-abbrev pub widthOf : Item → List ℕ → ℕ
-widthOf (noted n) report = 0
-widthOf (posed q) report = 3 + numberAt report 1
+abbrev pub behindField : List ℕ → List ℕ
+behindField report = drop (fieldWidth report) report
+
+-- Whether a field of sheets stands behind the first field: in edition 2, behind an 84 (132) or 86 (134).
+abbrev pub sheetsDue : Bool → List ℕ → Bool
+sheetsDue e report = e && (eqb (byteAt report 0) 132 || eqb (byteAt report 0) 134)
+
+-- "tagcheck adds a line `H` with their count and numbers", with the report from the field of sheets on.
+unfoldable pub sheetsLine : List ℕ → List ℕ
+sheetsLine report = line 72 (length (numbersIn (bodyOf report)) ∷ numbersIn (bodyOf report))
+
+-- The lines of an item: a note has none, and a question has the line of its sheets behind its own, where a field of them is due.
+abbrev pub lineOf : Bool → Item → List ℕ → List ℕ
+lineOf e (noted n) report = []
+lineOf e (posed q) report = questionLine q report ++ cond (sheetsDue e report) (sheetsLine (behindField report)) []
+
+-- The bytes of an item's fields in the report: a question has one field, and that of its sheets where one is due; a note has none.
+abbrev pub widthOf : Bool → Item → List ℕ → ℕ
+widthOf e (noted n) report = 0
+widthOf e (posed q) report = fieldWidth report + cond (sheetsDue e report) (fieldWidth (behindField report)) 0
 
 -- `T classes idle`.
 unfoldable pub totalsLine : List ℕ → List ℕ
 totalsLine report = line 84 (numberAt report 3 ∷ numberAt report 5 ∷ [])
 
 -- What a field of the job adds to the text, with the report from its own field on, and how far it goes in the report.
-abbrev pub textAt : Field → List ℕ → List ℕ
-textAt (item i) report = lineOf i report
-textAt end report = totalsLine report
-textAt (bad n) report = []
-textAt (header H) report = []
+abbrev pub textAt : Bool → Field → List ℕ → List ℕ
+textAt e (item i) report = lineOf e i report
+textAt e end report = totalsLine report
+textAt e (bad n) report = []
+textAt e (header H) report = []
 
-abbrev pub widthAt : Field → List ℕ → ℕ
-widthAt (item i) report = widthOf i report
-widthAt end report = 0
-widthAt (bad n) report = 0
-widthAt (header H) report = 0
+abbrev pub widthAt : Bool → Field → List ℕ → ℕ
+widthAt e (item i) report = widthOf e i report
+widthAt e end report = 0
+widthAt e (bad n) report = 0
+widthAt e (header H) report = 0

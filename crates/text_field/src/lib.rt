@@ -1,5 +1,5 @@
 // What one field of a job adds to the text that tagcheck writes: the line of a question by its field of the report, and of the totals. Document 01,
-// "The program"; document 02, No. 1. Rests on meaning, job_field and text_line.
+// "The program"; document 02, No. 1 and 9. Rests on meaning, job_field and text_line.
 ghost use mathlib.Core.Path.{_≡_};
 ghost use mathlib.Core.List.{[], _∷_};
 ghost use Prim.Native.Nat.{_+_, _≤_, min};
@@ -9,7 +9,10 @@ ghost use Rattle.job_field.specs.Reading.{byteAt, numberAt};
 ghost use Rattle.job_field.specs.Answer.{questionSaid, said};
 ghost use Rattle.text_line.specs.Line.{parted, line};
 ghost use Rattle.text_line.specs.Put.{Put};
-ghost use Rattle.text_field.specs.Fields.{numbersIn, partOf, bodyOf, explainLine, brokenLine, whyLine, questionLine, totalsLine, textAt, widthAt};
+ghost use Rattle.text_field.specs.Fields.{numbersIn, partOf, bodyOf, explainLine, brokenLine, whyLine, questionLine, totalsLine, fieldWidth, behindField, sheetsDue, sheetsLine, lineOf, textAt, widthAt};
+ghost use mathlib.Core.Bool.{cond, _&&_, _||_};
+ghost use lib.Dec.{eqb};
+ghost use Rattle.job_field.specs.Items.{posed};
 use job_field::Field;
 use job_field::Query;
 use meaning::Tag;
@@ -205,29 +208,90 @@ fn put_question(q: Query, report: &[u8], out: &mut [u8], at: usize) -> usize
     }
 }
 
-// What a field of the job adds to the text, with the report from the field's own answer on.
-pub fn put_field(field: Field, report: &[u8], out: &mut [u8], at: usize) -> usize
+// Whether a field of sheets stands behind a field of a kind: in edition 2, behind a reason.
+fn is_due(sheeted: bool, kind: u8) -> bool
+    ensures { λ r. ⌜ r ≡ (sheeted && (eqb kind 132 || eqb kind 134)) ⌝ }
+{
+    if sheeted {
+        if kind == 0x84 { true } else { kind == 0x86 }
+    } else {
+        false
+    }
+}
+
+// The line of sheets: the numbers of the body of the report's first field, as far as they are there.
+fn put_sheets(report: &[u8], out: &mut [u8], at: usize) -> usize
+    ensures { λ r. ⌜ Put (sheetsLine (now (report .entry))) (now (out .entry)) at (now (out .exit)) r ⌝ }
+{
+    let stop = width(report);
+    let from = part_start(3, stop);
+    let next = put(out, at, b'H');
+    let second = put_parted(out, next, (stop - from) / 2);
+    let last = put_numbers(report, from, stop, out, second);
+    put(out, last, b'\n')
+}
+
+// The line of the sheets behind the report's first field, where a field of them is due.
+fn put_filed(sheeted: bool, report: &[u8], out: &mut [u8], at: usize) -> usize
     requires { ⌜ at ≤ length (now out) + 1 ⌝ }
-    ensures { λ r. ⌜ Put (textAt (said field) (now (report .entry))) (now (out .entry)) at (now (out .exit)) r ⌝ }
+    ensures { λ r. ⌜ Put (cond (sheetsDue sheeted (now (report .entry))) (sheetsLine (behindField (now (report .entry)))) []) (now (out .entry)) at (now (out .exit)) r ⌝ }
+{
+    let first = width(report);
+    let rest = &report[first..];
+    if is_due(sheeted, byte(report, 0)) {
+        put_sheets(rest, out, at)
+    } else {
+        at
+    }
+}
+
+// The lines of a question: its own, and that of its sheets.
+fn put_answer(sheeted: bool, q: Query, report: &[u8], out: &mut [u8], at: usize) -> usize
+    requires { ⌜ at ≤ length (now out) + 1 ⌝ }
+    ensures { λ r. ⌜ Put (lineOf sheeted (posed (questionSaid q)) (now (report .entry))) (now (out .entry)) at (now (out .exit)) r ⌝ }
+{
+    let next = put_question(q, report, out, at);
+    put_filed(sheeted, report, out, next)
+}
+
+// The bytes of a question's fields that are there: its own, and that of its sheets where one is due.
+fn fields_width(sheeted: bool, report: &[u8]) -> usize
+    ensures { λ r. do
+      let all = now (report .entry)
+      ⌜ r ≡ min (fieldWidth all + cond (sheetsDue sheeted all) (fieldWidth (behindField all)) 0) (length all) ⌝ }
+{
+    let first = width(report);
+    let rest = &report[first..];
+    if is_due(sheeted, byte(report, 0)) {
+        first + width(rest)
+    } else {
+        first
+    }
+}
+
+// What a field of the job adds to the text, in the job's edition and with the report from the field's own answer on.
+pub fn put_field(sheeted: bool, field: Field, report: &[u8], out: &mut [u8], at: usize) -> usize
+    requires { ⌜ at ≤ length (now out) + 1 ⌝ }
+    ensures { λ r. ⌜ Put (textAt sheeted (said field) (now (report .entry))) (now (out .entry)) at (now (out .exit)) r ⌝ }
 {
     match field {
         Field::Bad(_) => at,
-        Field::Header(_, _) => at,
+        Field::Header(_, _, _) => at,
         Field::Noted(_) => at,
-        Field::Posed(q) => put_question(q, report, out, at),
+        Field::Posed(q) => put_answer(sheeted, q, report, out, at),
         Field::End => put_totals(report, out, at),
     }
 }
 
-// How far a field of the job goes in the report: over the field of a question, as far as it is there.
-pub fn passed(field: Field, report: &[u8]) -> usize
-    ensures { λ r. ⌜ r ≡ min (widthAt (said field) (now (report .entry))) (length (now (report .entry))) ⌝ }
+// How far a field of the job goes in the report: over the fields of a question, as far as they are there.
+pub fn passed(sheeted: bool, field: Field, report: &[u8]) -> usize
+    ensures { λ r. ⌜ r ≡ min (widthAt sheeted (said field) (now (report .entry))) (length (now (report .entry))) ⌝ }
 {
     match field {
         Field::Bad(_) => 0,
-        Field::Header(_, _) => 0,
+        Field::Header(_, _, _) => 0,
         Field::Noted(_) => 0,
-        Field::Posed(_) => width(report),
+        Field::Posed(_) => fields_width(sheeted, report),
         Field::End => 0,
     }
 }

@@ -2,7 +2,7 @@
 -- Assumes nothing.
 use mathlib.Core.Path.{ap}
 use Rattle.job_field.specs.Answer.{questionSaid}
-use Rattle.answer_all.proofs.Midway.{answered-replied}
+use Rattle.answer_all.proofs.Midway.{answered-replied, asked-explaining, explained-replied}
 use borrow.Author.Needs.{needs}
 use Rattle.answer_all.proofs.answer_question.Statement.{statement}
 use Rattle.answer_all.proofs.answer_question.Tie as tie
@@ -17,7 +17,7 @@ enum-known-q-2 : tie.Need-enum-known-q-2
 enum-known-q-2 c = search needs
 
 answer-explain-requires : tie.Need-answer-explain-requires
-answer-explain-requires c κs = (rw (ap questionSaid (c .before .before .before .q2 .given .1)) at (c .before .before .before .before .before .before .before .before .pre)) .facing
+answer-explain-requires c κs = asked-explaining (rw (ap questionSaid (c .before .before .before .q2 .given .1)) at (c .before .before .before .before .before .before .before .before .pre))
 
 enum-told : tie.Need-enum-told
 enum-told c = search needs
@@ -47,7 +47,7 @@ same-length-4 : tie.Need-same-length-4
 same-length-4 c = search needs
 
 returns-2 : tie.Need-returns-2
-returns-2 c = rw (ap questionSaid (c .before .before .before .before .before .before .before .before .q2 .given .1)) (answered-replied (c .before .before .before .before .before .before .before .before .before .before .before .before .before .pre .breaking) (c .before .before .before .before .answer-explain .ensures))
+returns-2 c = rw (ap questionSaid (c .before .before .before .before .before .before .before .before .q2 .given .1)) (explained-replied (c .before .before .before .before .answer-explain .ensures))
 
 same-length-5 : tie.Need-same-length-5
 same-length-5 c = search needs
@@ -70,24 +70,4 @@ returns-4 c = rw (ap questionSaid (c .before .before .before .before .before .be
 pub answer-question-spec : {M : Type 1} → statement M
 answer-question-spec =
     tie.close
-    (tie.spec
-    enum-known-q
-    answer-ask-requires
-    enum-known-q-2
-    answer-explain-requires
-    enum-told
-    answer-broken-requires
-    enum-known-q-3
-    answer-why-requires
-    same-length
-    same-length-2
-    returns
-    same-length-3
-    same-length-4
-    returns-2
-    same-length-5
-    same-length-6
-    returns-3
-    same-length-7
-    same-length-8
-    returns-4)
+    (tie.spec enum-known-q answer-ask-requires enum-known-q-2 answer-explain-requires enum-told answer-broken-requires enum-known-q-3 answer-why-requires same-length same-length-2 returns same-length-3 same-length-4 returns-2 same-length-5 same-length-6 returns-3 same-length-7 same-length-8 returns-4)

@@ -36,7 +36,7 @@ returns-2 : tie.Need-returns-2
 returns-2 c =
     let e = c .before .before in
     let j = e .before .before .before in
-    let t = told-accepted (now (j .before .before .args .job)) _ _ _ _ _ (rw (e .before .size .given .1) at (j .read-job .ensures)) in
+    let t = told-accepted (now (j .before .before .args .job)) _ _ _ _ _ _ (rw (e .before .size .given .1) at (j .read-job .ensures)) in
     rw (c .before .wide .ensures, c .wide2 .ensures) (taken-viewed t)
 
 pub view-spec : {M : Type 1} → statement M

@@ -8,7 +8,7 @@ use Prim.Native.Nat.{ℕ}
 use lib.ListN.{length-replicate}
 
 slice-aggregate-with-reports : tie.Need-slice-aggregate-with-reports
-slice-aggregate-with-reports c = sym (length-replicate {A = ℕ} 50000 0)
+slice-aggregate-with-reports c = sym (length-replicate {A = ℕ} 54511 0)
 
 with-reports-requires : tie.Need-with-reports-requires
 with-reports-requires c κs = search needs

@@ -3,6 +3,7 @@
 use mathlib.Core.Path.{ap}
 use Rattle.job_field.specs.Answer.{questionSaid}
 use Rattle.harness_answer.proofs.Midway.{ask-replied, why-replied, explain-replied}
+use Rattle.answer_all.proofs.Midway.{asked-explaining}
 use Rattle.harness_reason.proofs.Plain.{plain-here}
 use borrow.Author.Needs.{needs}
 use Rattle.harness_answer.proofs.answer_question.Statement.{statement}
@@ -18,7 +19,7 @@ enum-known-q-2 : tie.Need-enum-known-q-2
 enum-known-q-2 c = search needs
 
 answer-explain-requires : tie.Need-answer-explain-requires
-answer-explain-requires c κs = let p = rw (ap questionSaid (c .before .before .before .q2 .given .1)) at (c .before .before .before .before .before .before .before .before .pre .0) in (p .facing, plain-here (p .breaking) (c .before .before .before .before .before .before .before .before .pre .1))
+answer-explain-requires c κs = let p = rw (ap questionSaid (c .before .before .before .q2 .given .1)) at (c .before .before .before .before .before .before .before .before .pre .0) in (asked-explaining p, plain-here (p .breaking) (c .before .before .before .before .before .before .before .before .pre .1))
 
 enum-told : tie.Need-enum-told
 enum-told c = search needs

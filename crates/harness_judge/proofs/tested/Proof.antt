@@ -1,15 +1,15 @@
 -- `harness_judge::tested` meets its contract, question by question.
 -- Assumes nothing.
-use mathlib.Core.Path.{sym, ap}
+use mathlib.Core.Path.{refl, sym, ap}
 use Rattle.job_field.specs.Answer.{questionSaid}
 use Rattle.job_field.specs.Reading.{matterIn}
 use Rattle.report.specs.Report.{Known}
-use Rattle.harness_report.proofs.Known.{harness-ask-known, harness-ask-tabled, harness-explain-known, harness-explain-tabled, harness-why-known, harness-why-tabled}
-use Rattle.harness_report.proofs.One.{harness-answers-one}
+use Rattle.harness_report.proofs.Known.{harness-ask-known, harness-ask-tabled, harness-why-known, harness-why-tabled}
+use Rattle.harness_report.proofs.One.{harness-no-reason}
 use Rattle.harness_reason.proofs.Plain.{plain-here}
 use Rattle.answer_ask.proofs.Right.{right-same}
-use Rattle.judge.proofs.Going.{known-here}
-use Rattle.harness_judge.proofs.Going.{explained-right}
+use Rattle.judge.proofs.Going.{known-here, explaining-here}
+use Rattle.harness_judge.proofs.Going.{lone-tested}
 use borrow.Author.Needs.{needs}
 use Rattle.harness_judge.proofs.tested.Statement.{statement}
 use Rattle.harness_judge.proofs.tested.Tie as tie
@@ -30,7 +30,7 @@ posed-requires-2 : tie.Need-posed-requires-2
 posed-requires-2 c κs = search needs
 
 explained-requires : tie.Need-explained-requires
-explained-requires c κs = let t = rw (ap questionSaid (c .before .before .before .q2 .given .1)) at (c .before .before .before .before .before .before .before .before .pre .0) in (rw (c .posed2 .ensures) (record { past = t .breaking .past; units = rw (t .breaking .head) at (t .breaking .stands .units); early = t .breaking .passed; from = t .tags .0; to = t .tags .1 .0 }), rw (c .posed2 .ensures) (plain-here (t .breaking) (c .before .before .before .before .before .before .before .before .pre .1)), t .within)
+explained-requires c κs = let t = rw (ap questionSaid (c .before .before .before .q2 .given .1)) at (c .before .before .before .before .before .before .before .before .pre .0) in (rw (c .posed2 .ensures) (explaining-here (t .breaking) (record { past = t .breaking .past; units = rw (t .breaking .head) at (t .breaking .stands .units); early = t .breaking .passed; from = t .tags .0; to = t .tags .1 .0 }) refl refl), rw (c .posed2 .ensures) (plain-here (t .breaking) (c .before .before .before .before .before .before .before .before .pre .1)), t .within)
 
 enum-told : tie.Need-enum-told
 enum-told c = search needs
@@ -56,7 +56,7 @@ same-length c = search needs
 returns : tie.Need-returns
 returns c =
     rw (ap questionSaid (c .before .before .before .before .before .before .q .given .1))
-    (record { kept = c .before .before .led .ensures .kept; right = λ b e d. let K = known-here (c .before .before .before .before .before .before .before .before .before .before .before .pre .0 .breaking) b e in right-same (harness-ask-known K) (harness-ask-tabled K) (rw (c .before .before .before .posed .ensures) at (c .before .before .led .ensures .right)) })
+    (record { kept = c .before .before .led .ensures .kept; right = λ b e d. let K = known-here (c .before .before .before .before .before .before .before .before .before .before .before .pre .0 .breaking) b e in lone-tested (λ L f r. harness-no-reason refl r) (right-same (harness-ask-known K) (harness-ask-tabled K) (rw (c .before .before .before .posed .ensures) at (c .before .before .led .ensures .right))) })
 
 same-length-2 : tie.Need-same-length-2
 same-length-2 c = search needs
@@ -64,7 +64,7 @@ same-length-2 c = search needs
 returns-2 : tie.Need-returns-2
 returns-2 c =
     rw (ap questionSaid (c .before .before .before .before .before .before .q2 .given .1))
-    (let x = rw (c .before .before .before .posed2 .ensures) at (c .before .before .explained .ensures) in explained-right (c .before .before .before .before .before .before .before .before .before .before .before .pre .0 .breaking) x)
+    (record { kept = c .before .before .explained .ensures .kept; right = λ b e d. (rw (c .before .before .before .posed2 .ensures) at (c .before .before .explained .ensures .right)) b e })
 
 same-length-3 : tie.Need-same-length-3
 same-length-3 c = search needs
@@ -78,7 +78,7 @@ same-length-4 c = search needs
 returns-4 : tie.Need-returns-4
 returns-4 c =
     rw (ap questionSaid (c .before .before .before .before .before .before .q3 .given .1))
-    (record { kept = c .before .before .doubted .ensures .kept; right = λ b e d. let K = known-here (c .before .before .before .before .before .before .before .before .before .before .before .pre .0 .breaking) b e in right-same (harness-why-known K) (harness-why-tabled K) (rw (c .before .before .before .posed3 .ensures) at (c .before .before .doubted .ensures .right)) })
+    (record { kept = c .before .before .doubted .ensures .kept; right = λ b e d. let K = known-here (c .before .before .before .before .before .before .before .before .before .before .before .pre .0 .breaking) b e in lone-tested (λ L f r. harness-no-reason refl r) (right-same (harness-why-known K) (harness-why-tabled K) (rw (c .before .before .before .posed3 .ensures) at (c .before .before .doubted .ensures .right))) })
 
 pub tested-spec : {M : Type 1} → statement M
 tested-spec =

@@ -1,4 +1,4 @@
--- `job_field::body` meets its contract: the three numbers are read in their places.
+-- `job_field::body` meets its contract: the four numbers are read in their places.
 -- Assumes nothing.
 use borrow.Author.Needs.{needs}
 use Rattle.job_field.proofs.body.Statement.{statement}
@@ -19,11 +19,17 @@ add-number-2 c = search needs
 number-requires-3 : tie.Need-number-requires-3
 number-requires-3 c κs = search needs
 
+add-number-3 : tie.Need-add-number-3
+add-number-3 c = search needs
+
+number-requires-4 : tie.Need-number-requires-4
+number-requires-4 c κs = search needs
+
 meant-requires : tie.Need-meant-requires
 meant-requires c κs = search needs
 
 returns : tie.Need-returns
-returns c = rw (← c .before .before .before .number .ensures, ← c .before .before .number2 .ensures, ← c .before .number3 .ensures) (c .meant .ensures)
+returns c = rw (← c .before .before .before .before .number .ensures, ← c .before .before .before .number2 .ensures, ← c .before .before .number3 .ensures, ← c .before .number4 .ensures) (c .meant .ensures)
 
 pub body-spec : {M : Type 1} → statement M
 body-spec =
@@ -34,5 +40,7 @@ body-spec =
     number-requires-2
     add-number-2
     number-requires-3
+    add-number-3
+    number-requires-4
     meant-requires
     returns)

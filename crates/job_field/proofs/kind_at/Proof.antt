@@ -17,17 +17,20 @@ number-requires c κs = search needs
 first-kind-requires : tie.Need-first-kind-requires
 first-kind-requires c κs = search needs
 
+sheeted-requires : tie.Need-sheeted-requires
+sheeted-requires c κs = search needs
+
 byte-requires-2 : tie.Need-byte-requires-2
 byte-requires-2 c κs = search needs
 
-later-kind-requires : tie.Need-later-kind-requires
-later-kind-requires c κs = search needs
+edition-kind-requires : tie.Need-edition-kind-requires
+edition-kind-requires c κs = search needs
 
 returns : tie.Need-returns
 returns c = rw (eq-eqb _ _ (c .before .before .before .if1 .taken), ← c .before .before .byte .ensures, ← c .before .number .ensures) (c .first-kind .ensures)
 
 returns-2 : tie.Need-returns-2
-returns-2 c = rw (ne-eqb _ _ (c .before .before .if1 .left), ← c .before .byte2 .ensures) (c .later-kind .ensures)
+returns-2 c = rw (ne-eqb _ _ (c .before .before .before .if1 .left), ← c .before .before .sheeted .ensures, ← c .before .byte2 .ensures) (c .edition-kind .ensures)
 
 pub kind-at-spec : {M : Type 1} → statement M
 kind-at-spec =
@@ -37,7 +40,8 @@ kind-at-spec =
     add-number
     number-requires
     first-kind-requires
+    sheeted-requires
     byte-requires-2
-    later-kind-requires
+    edition-kind-requires
     returns
     returns-2)

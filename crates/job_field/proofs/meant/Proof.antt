@@ -46,6 +46,15 @@ enum-told-10 c = search needs
 enum-told-11 : tie.Need-enum-told-11
 enum-told-11 c = search needs
 
+enum-told-12 : tie.Need-enum-told-12
+enum-told-12 c = search needs
+
+enum-told-13 : tie.Need-enum-told-13
+enum-told-13 c = search needs
+
+enum-told-14 : tie.Need-enum-told-14
+enum-told-14 c = search needs
+
 returns : tie.Need-returns
 returns c = rw (c .enum-told .given .1)
 
@@ -79,6 +88,15 @@ returns-10 c = rw (c .enum-told10 .given .1)
 returns-11 : tie.Need-returns-11
 returns-11 c = rw (c .enum-told11 .given .1)
 
+returns-12 : tie.Need-returns-12
+returns-12 c = rw (c .enum-told12 .given .1)
+
+returns-13 : tie.Need-returns-13
+returns-13 c = rw (c .enum-told13 .given .1, c .before .before .before .before .of .ensures, c .before .before .before .of2 .ensures)
+
+returns-14 : tie.Need-returns-14
+returns-14 c = rw (c .enum-told14 .given .1, c .before .before .before .before .of .ensures, c .before .before .before .of2 .ensures, c .before .before .of3 .ensures)
+
 pub meant-spec : {M : Type 1} → statement M
 meant-spec =
     tie.close
@@ -97,6 +115,9 @@ meant-spec =
     enum-told-9
     enum-told-10
     enum-told-11
+    enum-told-12
+    enum-told-13
+    enum-told-14
     returns
     returns-2
     returns-3
@@ -107,4 +128,7 @@ meant-spec =
     returns-8
     returns-9
     returns-10
-    returns-11)
+    returns-11
+    returns-12
+    returns-13
+    returns-14)

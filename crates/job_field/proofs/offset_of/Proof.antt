@@ -5,6 +5,9 @@ use borrow.Author.Needs.{needs}
 use Rattle.job_field.proofs.offset_of.Statement.{statement}
 use Rattle.job_field.proofs.offset_of.Tie as tie
 
+add-sheet : tie.Need-add-sheet
+add-sheet c = search needs
+
 enum-told : tie.Need-enum-told
 enum-told c = search needs
 
@@ -31,6 +34,9 @@ enum-told-8 c = search needs
 
 enum-told-9 : tie.Need-enum-told-9
 enum-told-9 c = search needs
+
+enum-told-10 : tie.Need-enum-told-10
+enum-told-10 c = search needs
 
 returns : tie.Need-returns
 returns c = (rw (c .enum-told .given .1), omega arith)
@@ -59,10 +65,14 @@ returns-8 c = (rw (c .enum-told8 .given .1), omega arith)
 returns-9 : tie.Need-returns-9
 returns-9 c = (rw (c .enum-told9 .given .1), omega arith)
 
+returns-10 : tie.Need-returns-10
+returns-10 c = (rw (c .enum-told10 .given .1), omega arith)
+
 pub offset-of-spec : {M : Type 1} → statement M
 offset-of-spec =
     tie.close
     (tie.spec
+    add-sheet
     enum-told
     enum-told-2
     enum-told-3
@@ -72,6 +82,7 @@ offset-of-spec =
     enum-told-7
     enum-told-8
     enum-told-9
+    enum-told-10
     returns
     returns-2
     returns-3
@@ -80,4 +91,5 @@ offset-of-spec =
     returns-6
     returns-7
     returns-8
-    returns-9)
+    returns-9
+    returns-10)

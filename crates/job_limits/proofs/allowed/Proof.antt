@@ -1,10 +1,13 @@
--- `job_limits::allowed` meets its contract: count limit, N and tags are tested in the order of `checked`.
+-- `job_limits::allowed` meets its contract: count limit, N, tags and sheet are tested in the order of `checked`.
 -- Assumes nothing.
 use borrow.Author.Needs.{needs}
 use Rattle.job_limits.proofs.allowed.Statement.{statement}
 use Rattle.job_limits.proofs.allowed.Tie as tie
 use Rattle.job_field.specs.Reading.{orElse, checked}
 use mathlib.Core.Path.{ap, _∙_}
+
+is-filed-requires : tie.Need-is-filed-requires
+is-filed-requires c κs = search needs
 
 tags-of-requires : tie.Need-tags-of-requires
 tags-of-requires c κs = search needs
@@ -24,16 +27,20 @@ or-else-requires c κs = search needs
 or-else-requires-2 : tie.Need-or-else-requires-2
 or-else-requires-2 c κs = search needs
 
+or-else-requires-3 : tie.Need-or-else-requires-3
+or-else-requires-3 c κs = search needs
+
 returns : tie.Need-returns
 unfolding checked
 returns c =
     let counted = c .before .before .before .is-counted in
     let sized = c .before .before .is-sized in
-    let tested = c .before .before .before .before .tags-tested .ensures in
-    rw (← counted .ensures, ← sized .ensures, ← c .before .before .before .before .before .tags-of .ensures)
-    (c .or-else2 .ensures ∙ ap (orElse (counted .result) 7) (c .before .or-else .ensures ∙ ap (orElse (sized .result) 6) tested))
+    let kept = c .before .before .before .before .before .before .or-else .ensures in
+    let tested = rw kept at (c .before .before .before .before .tags-tested .ensures) in
+    rw (← counted .ensures, ← sized .ensures, ← c .before .before .before .before .before .tags-of .ensures, ← c .before .before .before .before .before .before .before .is-filed .ensures)
+    (c .or-else3 .ensures ∙ ap (orElse (counted .result) 7) (c .before .or-else2 .ensures ∙ ap (orElse (sized .result) 6) tested))
 
 pub allowed-spec : {M : Type 1} → statement M
 allowed-spec =
     tie.close
-    (tie.spec tags-of-requires tags-tested-requires is-counted-requires is-sized-requires or-else-requires or-else-requires-2 returns)
+    (tie.spec is-filed-requires or-else-requires tags-of-requires tags-tested-requires is-counted-requires is-sized-requires or-else-requires-2 or-else-requires-3 returns)

@@ -23,11 +23,8 @@ allowed-requires c κs = search needs
 enum-known-field : tie.Need-enum-known-field
 enum-known-field c = search needs
 
-offset-of-requires : tie.Need-offset-of-requires
-offset-of-requires c κs = search needs
-
-add-t16 : tie.Need-add-t16
-add-t16 c = search needs
+place-of-requires : tie.Need-place-of-requires
+place-of-requires c κs = search needs
 
 enum-known-field-2 : tie.Need-enum-known-field-2
 enum-known-field-2 c = search needs
@@ -63,7 +60,7 @@ returns : tie.Need-returns
 returns c =
     let a = c .before .before .before .before .before .before .before .before .before .before .args in
     let e = sym (c .before .before .before .before .allowed .ensures ∙ ap (checked (headSeen (a .s)) (momentOf (a .s .counts))) (c .before .before .before .before .before .read .ensures)) ∙ ap said (c .before .before .field .given .1) in
-    done-bad (now (a .job)) (a .s) (c .before .before .before .before .before .before .before .before .before .before .pre) _ _ e (rw (c .offset-of .ensures .0))
+    done-bad (now (a .job)) (a .s) (c .before .before .before .before .before .before .before .before .before .before .pre) _ _ e (rw (c .place-of .ensures))
 
 returns-2 : tie.Need-returns-2
 returns-2 c =
@@ -97,8 +94,7 @@ advance-spec =
     read-requires
     allowed-requires
     enum-known-field
-    offset-of-requires
-    add-t16
+    place-of-requires
     enum-known-field-2
     enum-known-field-3
     past-note-requires

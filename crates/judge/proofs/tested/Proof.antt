@@ -1,12 +1,13 @@
 -- `judge::tested` meets its contract, question by question.
 -- Assumes nothing.
-use mathlib.Core.Path.{sym, ap}
+use mathlib.Core.Path.{refl, sym, ap}
 use Rattle.job_field.specs.Answer.{questionSaid}
 use Rattle.job_field.specs.Reading.{matterIn}
 use Rattle.report.specs.Report.{Known}
-use Rattle.report.proofs.Known.{ask-known, ask-tabled, explain-known, explain-tabled, why-known, why-tabled}
+use Rattle.report.proofs.Known.{ask-known, ask-tabled, why-known, why-tabled, no-reason}
+use Rattle.judge_sheets.proofs.Passing.{lone-passed}
 use Rattle.answer_ask.proofs.Right.{right-same}
-use Rattle.judge.proofs.Going.{known-here}
+use Rattle.judge.proofs.Going.{known-here, explaining-here}
 use borrow.Author.Needs.{needs}
 use Rattle.judge.proofs.tested.Statement.{statement}
 use Rattle.judge.proofs.tested.Tie as tie
@@ -27,7 +28,9 @@ posed-requires-2 : tie.Need-posed-requires-2
 posed-requires-2 c κs = search needs
 
 explained-requires : tie.Need-explained-requires
-explained-requires c κs = let t = rw (ap questionSaid (c .before .before .before .q2 .given .1)) at (c .before .before .before .before .before .before .before .before .pre) in (rw (c .posed2 .ensures) (record { past = t .breaking .past; units = rw (t .breaking .head) at (t .breaking .stands .units); early = t .breaking .passed; from = t .tags .0; to = t .tags .1 .0 }), t .within)
+explained-requires c κs =
+    let t = rw (ap questionSaid (c .before .before .before .q2 .given .1)) at (c .before .before .before .before .before .before .before .before .pre) in
+    (rw (c .posed2 .ensures) (explaining-here (t .breaking) (record { past = t .breaking .past; units = rw (t .breaking .head) at (t .breaking .stands .units); early = t .breaking .passed; from = t .tags .0; to = t .tags .1 .0 }) refl refl), t .within)
 
 enum-told : tie.Need-enum-told
 enum-told c = search needs
@@ -53,7 +56,7 @@ same-length c = search needs
 returns : tie.Need-returns
 returns c =
     rw (ap questionSaid (c .before .before .before .before .before .before .q .given .1))
-    (record { kept = c .before .before .led .ensures .kept; right = λ b e d. let K = known-here (c .before .before .before .before .before .before .before .before .before .before .before .pre .breaking) b e in right-same (ask-known K) (ask-tabled K) (rw (c .before .before .before .posed .ensures) at (c .before .before .led .ensures .right)) })
+    (record { kept = c .before .before .led .ensures .kept; right = λ b e d. let K = known-here (c .before .before .before .before .before .before .before .before .before .before .before .pre .breaking) b e in lone-passed (λ L f r. no-reason refl r) (right-same (ask-known K) (ask-tabled K) (rw (c .before .before .before .posed .ensures) at (c .before .before .led .ensures .right))) })
 
 same-length-2 : tie.Need-same-length-2
 same-length-2 c = search needs
@@ -61,7 +64,7 @@ same-length-2 c = search needs
 returns-2 : tie.Need-returns-2
 returns-2 c =
     rw (ap questionSaid (c .before .before .before .before .before .before .q2 .given .1))
-    (record { kept = c .before .before .explained .ensures .kept; right = λ b e d. let K = known-here (c .before .before .before .before .before .before .before .before .before .before .before .pre .breaking) b e in right-same (explain-known K) (explain-tabled K) (rw (c .before .before .before .posed2 .ensures) at (c .before .before .explained .ensures .right)) })
+    (record { kept = c .before .before .explained .ensures .kept; right = λ b e d. (rw (c .before .before .before .posed2 .ensures) at (c .before .before .explained .ensures .right)) b e })
 
 same-length-3 : tie.Need-same-length-3
 same-length-3 c = search needs
@@ -75,29 +78,9 @@ same-length-4 c = search needs
 returns-4 : tie.Need-returns-4
 returns-4 c =
     rw (ap questionSaid (c .before .before .before .before .before .before .q3 .given .1))
-    (record { kept = c .before .before .doubted .ensures .kept; right = λ b e d. let K = known-here (c .before .before .before .before .before .before .before .before .before .before .before .pre .breaking) b e in right-same (why-known K) (why-tabled K) (rw (c .before .before .before .posed3 .ensures) at (c .before .before .doubted .ensures .right)) })
+    (record { kept = c .before .before .doubted .ensures .kept; right = λ b e d. let K = known-here (c .before .before .before .before .before .before .before .before .before .before .before .pre .breaking) b e in lone-passed (λ L f r. no-reason refl r) (right-same (why-known K) (why-tabled K) (rw (c .before .before .before .posed3 .ensures) at (c .before .before .doubted .ensures .right))) })
 
 pub tested-spec : {M : Type 1} → statement M
 tested-spec =
     tie.close
-    (tie.spec
-    enum-known-q
-    posed-requires
-    led-requires
-    enum-known-q-2
-    posed-requires-2
-    explained-requires
-    enum-told
-    left-requires
-    checked-requires
-    enum-known-q-3
-    posed-requires-3
-    doubted-requires
-    same-length
-    returns
-    same-length-2
-    returns-2
-    same-length-3
-    returns-3
-    same-length-4
-    returns-4)
+    (tie.spec enum-known-q posed-requires led-requires enum-known-q-2 posed-requires-2 explained-requires enum-told left-requires checked-requires enum-known-q-3 posed-requires-3 doubted-requires same-length returns same-length-2 returns-2 same-length-3 returns-3 same-length-4 returns-4)

@@ -20,7 +20,7 @@ returns : tie.Need-returns
 returns c =
     let start = c .before .before .before .before .before .before .before in
     let a = start .args in
-    because-other (now (a .work)) (now (a .report)) (a .at) (a .q) (start .pre .0) (front-whole (c .before .before .before .before .front-at .ensures) (c .before .before .kind .given .1)) (c .if1 .taken)
+    because-other (now (a .work)) (now (a .report)) (a .at) (a .q) (front-whole (c .before .before .before .before .front-at .ensures) (c .before .before .kind .given .1)) (c .if1 .taken)
 
 add-is-reason : tie.Need-add-is-reason
 add-is-reason c =
@@ -46,7 +46,7 @@ returns-2 : tie.Need-returns-2
 returns-2 c =
     let start = c .before .before .before .before .before in
     let a = start .args in
-    because-cut (now (a .work)) (now (a .report)) (a .at) (a .q) (start .pre .0) (c .before .before .front-at .ensures) (c .enum-told .given .1)
+    because-cut (now (a .work)) (now (a .report)) (a .at) (a .q) (c .before .before .front-at .ensures) (c .enum-told .given .1)
 
 same-length : tie.Need-same-length
 same-length c = c .before .before .before .is-reason .ensures .kept .size
@@ -55,7 +55,7 @@ returns-3 : tie.Need-returns-3
 returns-3 c =
     let start = c .before .before .before .before .before .before .before .before .before .before .before .before in
     let a = start .args in
-    because-right (now (a .work)) (now (a .report)) (a .at) (a .q) (start .pre .0) (front-whole (c .before .before .before .before .before .before .before .before .before .front-at .ensures) (c .before .before .before .before .before .before .before .kind .given .1))
+    because-right (now (a .work)) (now (a .report)) (a .at) (a .q) (front-whole (c .before .before .before .before .before .before .before .before .before .front-at .ensures) (c .before .before .before .before .before .before .before .kind .given .1))
     (c .before .before .before .before .before .if1 .left) (c .before .before .before .is-reason .ensures .kept) (c .before .before .before .is-reason .ensures .exact .0 (c .if2 .taken))
 
 same-length-2 : tie.Need-same-length-2
@@ -65,7 +65,7 @@ returns-4 : tie.Need-returns-4
 returns-4 c =
     let start = c .before .before .before .before .before .before .before .before .before .before .before .before in
     let a = start .args in
-    because-wrong (now (a .work)) (now (a .report)) (a .at) (a .q) (start .pre .0) (front-whole (c .before .before .before .before .before .before .before .before .before .front-at .ensures) (c .before .before .before .before .before .before .before .kind .given .1))
+    because-wrong (now (a .work)) (now (a .report)) (a .at) (a .q) (front-whole (c .before .before .before .before .before .before .before .before .before .front-at .ensures) (c .before .before .before .before .before .before .before .kind .given .1))
     (c .before .before .before .is-reason .ensures .kept) (untrue (c .before .before .before .is-reason .ensures .exact) (c .if2 .left))
 
 pub because-spec : {M : Type 1} → statement M

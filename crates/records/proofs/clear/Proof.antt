@@ -142,7 +142,7 @@ module _ {M : Type 1} (𝓤 : URA M) (H : Heap 𝓤) (A : Atoms 𝓤) (W : Given
         (λ less. skips ! $ exec ! C Λ En more (anyQ (Turned i)) $
         assigns ! (bin ! (load ! (from ! (stop !)) (look ! 16 refl)) (lit ! tt) (record { fits = bytes less })) (from ! (stop !)) (init ! 6 refl (tt, record { fits = bytes less })) $
         assigns ! (bin ! (load ! (from ! (fld ! refl (stop !))) (look-in ! 20 (sub ! 0 refl (whole !)))) (load ! (from ! (stop !)) (look ! 6 refl)) tt) (from ! (stop !)) (init ! 4 refl (tt, tt)) $
-        rewrite ! 4 (λ (p : ℕ). ‵ (fat fullShare tyPtr l₉ 0 (vptr b p))) (sym (place-is 8 o (i .0))) refl $
+        rewrite ! 4 (λ (p : ℕ). ‵ (fat fullShare tyPtr l₉ 0 (vptr b p))) (sym (place-is 10 o (i .0))) refl $
         elem-out ! R (Is R) (shows 𝓤 H A R) vals tells fullShare (upto (i .0)) (i .0) blank b o (within less) (λ _.
         -- [records[i]; what it owns; the others; the open borrow; obs; auth; _10; …]
         assigns ! (of-opd ! (load ! (from ! (stop !)) (look ! 20 refl))) (from ! (hop ! (look ! 6 refl) (stop !))) (store-raw ! 0 refl (typed 𝓤 H A W blank blank-is)) $
@@ -170,7 +170,7 @@ module _ {M : Type 1} (𝓤 : URA M) (H : Heap 𝓤) (A : Atoms 𝓤) (W : Given
         within : Holds (ltb (i .0) n) → i .0 < length (upto (i .0))
         within less = subst (λ (m : ℕ). i .0 < m) (sym (as-long (i .0))) (inside less)
 
-        bytes : Holds (ltb (i .0) n) → i .0 * 8 < 2 ^ 64
+        bytes : Holds (ltb (i .0) n) → i .0 * 10 < 2 ^ 64
         bytes less = let h : i .0 < length ys = inside less in omega (arith, h, room .1)
 
     -- what stands before the loop: the locals, the token, and what the parameters own
@@ -197,7 +197,7 @@ module _ {M : Type 1} (𝓤 : URA M) (H : Heap 𝓤) (A : Atoms 𝓤) (W : Given
       assigns ! (agg ! (and-then ! (lit ! tt) (no-more !))) (from ! (stop !)) (init ! 10 refl (tt, (record { fits = lit< tt }, tt))) $
       assigns ! (agg ! (and-then ! (lit ! tt) (no-more !))) (from ! (stop !)) (init ! 8 refl (tt, (record { fits = lit< tt }, tt))) $
       assigns ! (agg ! (and-then ! (lit ! tt) (no-more !))) (from ! (stop !)) (init ! 6 refl (tt, (record { fits = lit< tt }, tt))) $
-      assigns ! (agg ! (and-then ! (lit ! tt) (and-then ! (load ! (from ! (stop !)) (look ! 10 refl)) (and-then ! (load ! (from ! (stop !)) (look ! 8 refl)) (and-then ! (load ! (from ! (stop !)) (look ! 6 refl)) (no-more !)))))) (from ! (stop !)) (init ! 14 refl (typed 𝓤 H A W blank blank-is)) $
+      assigns ! (agg ! (and-then ! (lit ! tt) (and-then ! (load ! (from ! (stop !)) (look ! 10 refl)) (and-then ! (load ! (from ! (stop !)) (look ! 8 refl)) (and-then ! (load ! (from ! (stop !)) (look ! 6 refl)) (and-then ! (lit ! tt) (no-more !))))))) (from ! (stop !)) (init ! 14 refl (typed 𝓤 H A W blank blank-is)) $
       assigns ! (of-opd ! (lit ! tt)) (from ! (stop !)) (init ! 12 refl (tt, record { fits = lit< tt })) $ forget ! 6 refl $ forget ! 8 refl $ forget ! 10 refl $
       opened 𝓣 l₀ l₁ l₂ l₃ l₄ l₅ l₆ l₇ l₈ l₉))))))))))
 

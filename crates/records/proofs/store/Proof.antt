@@ -96,7 +96,7 @@ module _ {M : Type 1} (𝓤 : URA M) (H : Heap 𝓤) (A : Atoms 𝓤) (W : Given
         -- [_5; …; _4; …; _3; …; _2; …; _1; …; room for _0; …; the token; what the parameters own]
         assigns ! (bin ! (load ! (from ! (stop !)) (look ! 6 refl)) (lit ! tt) (record { fits = bytes })) (from ! (stop !)) (init ! 2 refl (tt, record { fits = bytes })) $
         assigns ! (bin ! (load ! (from ! (fld ! refl (stop !))) (look-in ! 8 (sub ! 0 refl (whole !)))) (load ! (from ! (stop !)) (look ! 2 refl)) tt) (from ! (stop !)) (init ! 0 refl (tt, tt)) $
-        rewrite ! 0 (λ (p : ℕ). ‵ (fat fullShare tyPtr l₅ 0 (vptr b p))) (sym (place-is 8 o i)) refl $
+        rewrite ! 0 (λ (p : ℕ). ‵ (fat fullShare tyPtr l₅ 0 (vptr b p))) (sym (place-is 10 o i)) refl $
         move ! (13 ∷ []) $ fsplit ! $ fsplit ! $ move ! (1 ∷ []) $ fsplit ! $ move ! (16 ∷ []) $ split ! $ move ! (2 ∷ 3 ∷ 0 ∷ []) $
         opens-slice ! tt R ys b o $ elem-out ! R (Is R) (shows 𝓤 H A R) vals (LL.tells T.the-type T′.the-laws) fullShare ys i r b o within (λ _.
         -- [records[at]; what it owns; the others; the open borrow; obs; auth; true; records's fact; at's and r's; _5; …; _4; …; _3; …; _2; …; _1; …; _0; …]
@@ -108,7 +108,7 @@ module _ {M : Type 1} (𝓤 : URA M) (H : Heap 𝓤) (A : Atoms 𝓤) (W : Given
         move ! (16 ∷ 17 ∷ []) $ free1 ! $ move ! (14 ∷ 15 ∷ []) $ free1 ! $ move ! (12 ∷ 13 ∷ []) $ free1 ! $ move ! (10 ∷ 11 ∷ []) $ free1 ! $ move ! (8 ∷ 9 ∷ []) $ free1 ! $ move ! (6 ∷ 7 ∷ []) $ free1 ! $ free0 ! $
         keep ! (0 ∷ 1 ∷ 2 ∷ 5 ∷ []) $ by ! (exits room))))))))
       where
-        bytes : i * 8 < 2 ^ 64
+        bytes : i * 10 < 2 ^ 64
         bytes = omega (arith, within, room .1)
 
         typed : Holds (hasTy T′.mir v) × WT v

@@ -8,7 +8,7 @@ use Prim.Native.Nat.{ℕ}
 use lib.ListN.{length-replicate}
 
 slice-aggregate-with-space : tie.Need-slice-aggregate-with-space
-slice-aggregate-with-space c = sym (length-replicate {A = ℕ} 4001008 0)
+slice-aggregate-with-space c = sym (length-replicate {A = ℕ} 4004008 0)
 
 with-space-requires : tie.Need-with-space-requires
 with-space-requires c κs = search needs

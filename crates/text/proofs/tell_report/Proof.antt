@@ -30,7 +30,7 @@ enum-told c = search needs
 put-items-requires : tie.Need-put-items-requires
 put-items-requires c κs =
     let e = sym (ap told (c .before .enum-told .given .1)) ∙ c .before .before .before .read-job .ensures in
-    let t = told-accepted _ _ _ _ _ _ e in
+    let t = told-accepted _ _ _ _ _ _ _ e in
     record { head = _; items = t .items; reads = t .reads }
 
 ending-requires : tie.Need-ending-requires
@@ -51,7 +51,7 @@ same-length-2 c = search needs
 returns-2 : tie.Need-returns-2
 returns-2 c =
     let e = sym (ap told (c .before .before .before .before .before .enum-told .given .1)) ∙ c .before .before .before .before .before .before .before .read-job .ensures in
-    let t = told-accepted _ _ _ _ _ _ e in
+    let t = told-accepted _ _ _ _ _ _ _ e in
     tells-as (rw (t .reads)) (put-told (c .before .before .before .put-items .ensures) (c .ending .ensures))
 
 pub tell-report-spec : {M : Type 1} → statement M

@@ -17,8 +17,8 @@ enum-told-3 c = search needs
 enum-told-4 : tie.Need-enum-told-4
 enum-told-4 c = search needs
 
-width-requires : tie.Need-width-requires
-width-requires c κs = search needs
+fields-width-requires : tie.Need-fields-width-requires
+fields-width-requires c κs = search needs
 
 enum-told-5 : tie.Need-enum-told-5
 enum-told-5 c = search needs
@@ -33,7 +33,7 @@ returns-3 : tie.Need-returns-3
 returns-3 c = rw (c .enum-told3 .given .1) (omega arith)
 
 returns-4 : tie.Need-returns-4
-returns-4 c = rw (c .before .enum-told4 .given .1) (omega arith)
+returns-4 c = rw (c .before .enum-told4 .given .1) (c .fields-width .ensures)
 
 returns-5 : tie.Need-returns-5
 returns-5 c = rw (c .enum-told5 .given .1) (omega arith)
@@ -46,7 +46,7 @@ passed-spec =
     enum-told-2
     enum-told-3
     enum-told-4
-    width-requires
+    fields-width-requires
     enum-told-5
     returns
     returns-2

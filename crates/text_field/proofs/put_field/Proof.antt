@@ -17,8 +17,8 @@ enum-told-3 c = search needs
 enum-known-field : tie.Need-enum-known-field
 enum-known-field c = search needs
 
-put-question-requires : tie.Need-put-question-requires
-put-question-requires c κs = search needs
+put-answer-requires : tie.Need-put-answer-requires
+put-answer-requires c κs = search needs
 
 enum-told-4 : tie.Need-enum-told-4
 enum-told-4 c = search needs
@@ -39,7 +39,7 @@ same-length : tie.Need-same-length
 same-length c = search needs
 
 returns-4 : tie.Need-returns-4
-returns-4 c = rw (c .before .before .before .before .before .field .given .1) (c .before .before .put-question .ensures)
+returns-4 c = rw (c .before .before .before .before .before .field .given .1) (c .before .before .put-answer .ensures)
 
 same-length-2 : tie.Need-same-length-2
 same-length-2 c = search needs
@@ -55,7 +55,7 @@ put-field-spec =
     enum-told-2
     enum-told-3
     enum-known-field
-    put-question-requires
+    put-answer-requires
     enum-told-4
     put-totals-requires
     returns
