@@ -5,7 +5,7 @@ rows = [l.split() for l in open(sys.argv[1]) if l.strip() and not l.startswith("
 codes = [r[1:] for r in rows if r[0] == "CODE"]
 table = [r for r in rows if r[0] != "CODE"]
 W = r"[\w′₀-₉'·-]"
-def word(o): return re.compile(r"(?<!%s)(?<!\.)%s(?!%s)" % (W, re.escape(o), W))
+def word(o): return re.compile(r"(?<!%s)(?<!\.)(?<!::)%s(?!%s)" % (W, re.escape(o), W))
 files = [f for f in glob.glob("crates/**/*", recursive=True) if f.endswith((".rt", ".antt")) and "/target/" not in f and "/must-fail/" not in f]
 texts = {f: open(f).read() for f in files}
 defs = {}
@@ -23,10 +23,12 @@ for c, m, o, n in table:
     if (c, m, o) not in defs: continue
     p, d = defs[(c, m, o)]
     use = re.compile(r"use Rattle.%s(?:·specs|·proofs)?\.(?:specs|proofs)(?:\.(?:specs|proofs))?\.%s\.\{([^}]*)\}" % (re.escape(c), re.escape(m)))
-    for f, t in texts.items():
+    for f, t in list(texts.items()):
         hit = f == p
-        for u in use.finditer(t):
-            if word(o).search(u.group(1)): hit = True
+        for u in list(use.finditer(t)):
+            if re.search(word(o).pattern + r" as ", u.group(1)): # under another name here: only the list changes
+                texts[f] = texts[f].replace(u.group(0), re.sub(word(o).pattern + r" as ", n + " as ", u.group(0))); changes.setdefault(f, [])
+            elif word(o).search(u.group(1)): hit = True
         if hit: changes.setdefault(f, []).append((o, n))
 paths = {}
 for c, o, n in codes:
