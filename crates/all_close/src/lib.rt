@@ -4,6 +4,8 @@
 //
 // A tag's label is a tag of its class, and at first each tag is its own. A record comes in: an equation joins its two tags, an application goes into its arguments' lists and waits. Those that wait
 // are met, one after the other, until none does; then all records so far hold, and the next comes in.
+#![tactic(auto)]
+
 ghost use Rattle.std.specs.Prelude.{◌≡◌, true, false, ◌≤◌, ◌<◌, length, ◌↔◌};
 ghost use Rattle.table.specs.Map.{Loaded};
 ghost use Rattle.table.specs.Places.{Large};
@@ -16,14 +18,14 @@ use all_settle::Progress;
 use meaning::NO_RECORD;
 
 // What a run of the closure found: the joins it made, and how many records are idle.
-#[derive(Drop)]
+#[derive(Clone, Copy)]
 pub struct Totals {
     pub joins: usize,
     pub idle: usize,
 }
 
 // A record that came in: the joins there are after it, and whether it is idle.
-#[derive(Drop)]
+#[derive(Clone, Copy)]
 struct Came {
     joins: usize,
     idle: bool,

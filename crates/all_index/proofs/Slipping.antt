@@ -62,21 +62,21 @@ module _ (nx nx' : ℕ → ℕ) (q r : ℕ) (fall : (s : ℕ) → nx s ≤ s) (f
       elim (skip-back (λ h. off (further (rw z at h))) o) [ inl h ↦ inl h | inr u ↦ inr (further (rw z at u)) ])
 
   -- Before it comes by r it comes by q.
-  skip-from : {p : ℕ} → (On nx' p r → ⊥) → On nx p r → On nx' p q
-  skip-from off here = absurd (off here)
-  skip-from off (further {q = t} o) = by-same t q
+  skip-from : {p : ℕ} → On nx p r → (On nx' p r → ⊥) → On nx' p q
+  skip-from here off = absurd (off here)
+  skip-from (further {q = t} o) off = by-same t q
       (λ e. rw e here)
-      (λ n. let z : nx t ≡ nx' t = rest t n (λ e. off (rw e here)) in further (rw z at (skip-from (λ h. off (further (rw z at h))) o)))
+      (λ n. let z : nx t ≡ nx' t = rest t n (λ e. off (rw e here)) in further (rw z at (skip-from o (λ h. off (further (rw z at h))))))
 
   -- The chain by nx' does not come by r, if only q leads there.
-  skip-off : {p : ℕ} → p ≢ suc r → ((s : ℕ) → On nx p s → nx s ≡ suc r → s ≡ q) → On nx' p r → ⊥
-  skip-off n only here = n refl
-  skip-off n only (further {q = t} o) = by-same t q
+  skip-off : {p : ℕ} → On nx' p r → p ≢ suc r → ((s : ℕ) → On nx p s → nx s ≡ suc r → s ≡ q) → ⊥
+  skip-off here n only = n refl
+  skip-off (further {q = t} o) n only = by-same t q
       (λ e. let u : On nx' (nx r) r = rw past at (rw e at o) in
       let g = on-low {i = nx r} (λ s m. fall' s) (omega arith) u in
       omega (arith, fall r))
       (λ d. let z : nx t ≡ nx' t = rest t d (λ e. n (rw e)) in
-      skip-off (rw (← z) (λ y. d (only t here y))) (λ s h. only s (further (rw z h))) o)
+      skip-off o (rw (← z) (λ y. d (only t here y))) (λ s h. only s (further (rw z h))))
 
   skip-seek : (hit : ℕ → Bool) (n p : ℕ) → p ≤ n → (On nx' p r → ⊥) → ((seek_to nx hit p ≡ suc r) × (hit r ≡ true)) ⊎ (seek_to nx' hit p ≡ seek_to nx hit p)
   skip-seek hit zero zero l off = inr (seek-none nx' hit fall' ∙ sym (seek-none nx hit fall))
@@ -216,7 +216,7 @@ module _ {B i : ℕ} {eqn : ℕ → Bool} {key res hd ch : ℕ → ℕ} (F : Fil
         omega (arith, slip-low)
 
     off₁ : (c : ℕ) → On (link ch₁) (hd c) r → ⊥
-    off₁ c = skip-off (link ch) (link ch₁) q r (falls' F) downs₁ next past₁ rest₁ (first₁ c) (only₁ c)
+    off₁ c o = skip-off (link ch) (link ch₁) q r (falls' F) downs₁ next past₁ rest₁ o (first₁ c) (only₁ c)
 
     pub slip-out-found : (x : ℕ) → ((found B key hd ch x ≡ suc r) × (key r ≡ x)) ⊎ (found B key hd ch₁ x ≡ found B key hd ch x)
     unfolding look
@@ -335,7 +335,7 @@ module _ {B i : ℕ} {eqn : ℕ → Bool} {key res hd ch : ℕ → ℕ} (F : Fil
       heads = F.heads;
       falls = falls₂;
       filed = λ c s o. elim (skip-back (link ch₂) (link ch) q j downs₂ (falls' F) over₂ past₂ rest₂ (off₂ c) o) [
-        | inl e ↦ (let u : On (link ch) (hd c) q = skip-from (link ch₂) (link ch) q j downs₂ (falls' F) over₂ past₂ rest₂ (off₂ c) (rw e at o) in
+        | inl e ↦ (let u : On (link ch) (hd c) q = skip-from (link ch₂) (link ch) q j downs₂ (falls' F) over₂ past₂ rest₂ (rw e at o) (off₂ c) in
             (rw e app, rw (e, in-j) q-filed.1, rw e (sym q-filed.2 ∙ (F.filed c q u).2)))
         | inr u ↦ (let f = F.filed c s u in (f.0, some₂ s f.1, f.2))
       ];

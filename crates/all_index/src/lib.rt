@@ -2,6 +2,8 @@
 //
 // Applications are filed by their arguments' labels in chains that lead to lower places. Before a join, the lists of the tags that it relabels tell which applications it concerns: these are taken out of
 // their chains and wait, in front of those that wait already.
+#![tactic(auto)]
+
 ghost use Rattle.std.specs.Prelude.{◌≡◌, ◌⊎◌, false, ℕ, suc, ◌%◌, ◌≤◌, ◌<◌, length};
 ghost use Rattle.meaning.specs.Limits.{most_records, most_tags};
 ghost use Rattle.table.specs.Map.{left_of, right_of, label_of, use_of, more_of, chain_of, Within};
@@ -14,7 +16,7 @@ ghost use Rattle.all_index.specs.State.{eqn_at, key_at, found_in, Filing, Queued
 use meaning::{RecordNo, Tag};
 
 // The first `places` of the records 1 to `len` that the table holds of `size` tags are in.
-#[derive(Drop)]
+#[derive(Clone, Copy)]
 pub struct Front {
     pub size: usize,
     pub len: usize,

@@ -7,7 +7,6 @@ use mathlib.Core.Path.{◌≡◌, sym, ap, ◌∙◌, fun_ext}
 use mathlib.Core.Logic.{◌≢◌, ◌⊎◌, inl, inr}
 use mathlib.Core.Bool.{Bool, true, false}
 use mathlib.Core.List.{List}
-use lib.ListN.{length}
 use Rattle.meaning.specs.Joins.{Join, put}
 use Rattle.meaning.specs.Labels.{Labels, into, classes}
 use Rattle.meaning.specs.Forest.{root}

@@ -4,6 +4,8 @@
 // A class has a label, which is one of its tags, and a leader, the smallest. A join relabels the class of fewer tags, as source document 002 does, and keeps that the larger leader went under the smaller.
 // A leader has no link. In its place of PARENT the table holds the largest tag of its class, and in its place of AGE the number LEADS, with one more for each other tag of the class. Before a join, the
 // applications that it concerns are taken out of their chains and wait.
+#![tactic(auto)]
+
 ghost use Rattle.std.specs.Prelude.{◌≡◌, ◌≢◌, ◌⊎◌, ℕ, ◌≤◌, ◌<◌, length};
 ghost use Rattle.meaning.specs.Limits.{most_tags};
 ghost use Rattle.table.specs.Map.{label_of};
@@ -15,7 +17,7 @@ use all_index::Front;
 use meaning::{RecordNo, Tag};
 
 // A class: its label, and the tag that leads it.
-#[derive(Drop)]
+#[derive(Clone, Copy)]
 struct Side {
     label: Tag,
     leader: Tag,

@@ -5,7 +5,6 @@ use native.Mathlib.Omega.{arith}
 use mathlib.Core.Path.{◌≡◌, refl}
 use mathlib.Core.Bool.{false}
 use mathlib.Core.List.{List}
-use lib.ListN.{length}
 use Rattle.meaning.specs.Following.{At, eq}
 use Rattle.meaning.specs.Limits.{most_records, most_tags}
 use Rattle.table.specs.Map.{left_of, right_of, result_of, label_of, rec_at, records_in, Loaded, Within}

@@ -2,6 +2,8 @@
 // (keys), all_index (filed applications, and those that wait) and all_join (joins).
 //
 // An application that waits is looked up by its arguments' labels: what is not found is filed, and what is found makes a join unless the two results have one label. A join may set more to wait.
+#![tactic(auto)]
+
 ghost use Rattle.std.specs.Prelude.{◌≡◌, suc, ◌≤◌, ◌<◌, length};
 ghost use Rattle.meaning.specs.Limits.{most_records, most_tags};
 ghost use Rattle.table.specs.Map.{result_of, label_of, Within};
@@ -13,7 +15,7 @@ use all_index::Front;
 use meaning::{RecordNo, Tag};
 
 // How far the closure is: the joins made, and one more than the first place that waits, or 0.
-#[derive(Drop)]
+#[derive(Clone, Copy)]
 pub struct Progress {
     pub joins: usize,
     pub first: usize,

@@ -7,15 +7,15 @@ use mathlib.Core.Path.{◌≡◌, refl, sym, ◌∙◌, ap}
 use mathlib.Core.Bool.{true, false}
 use mathlib.Core.List.{List, [], ◌∷◌, ◌++◌, append_assoc}
 use lib.ListN.{length, length-append}
-use Rattle.job_field.specs.Items.{Head, Note, stands_for, pairs_noted, Moment, start, after, Question, explain, room_for, Item, noted, posed, records_of, pairs_of, needed_room}
+use Rattle.job_field.specs.Items.{Head, Note, stands_for, pairs_noted, start, after, Question, explain, room_for, Item, noted, posed, records_of, pairs_of, needed_room}
 use Rattle.job_field.specs.Reading.{Field, bad, header, item, end, behind_at, field_standing, head_in, items_in, matter_in}
 use Rattle.job_field.specs.Standing.{Met}
 use Rattle.job_field.proofs.Items.{stands-few}
 use Rattle.job_field.proofs.Standing.{stands-item, stands-end, stands-first, stands-last, stands-within}
-use Rattle.table.specs.Map.{rec_at, records_in, Within}
+use Rattle.table.specs.Map.{rec_at, Within}
 use Rattle.table.proofs.Frame.{within-refl, within-trans, within_wider, length-gather}
 use Rattle.table.specs.Places.{LIST, behind_joins, from_to}
-use Rattle.report.specs.Report.{Answers, passed, answered, Known, after_records, laid}
+use Rattle.report.specs.Report.{Answers, passed, answered, after_records}
 use Rattle.report.proofs.Fits.{answers-fits}
 use Rattle.report.proofs.Known.{room-known}
 use Rattle.report.proofs.Laid.{length-laid, laid_none, laid_then}
@@ -23,7 +23,7 @@ use Rattle.moment.proofs.Kept.{kept-past, kept-records}
 use Rattle.pairs.specs.Marks.{Marking, Noted}
 use Rattle.pairs.specs.Breaking.{Breaking, Guarded}
 use Rattle.pairs.proofs.Breaking.{guarded-begin, guarded-kept, guarded-note, guarded-room, breaking-here}
-use Rattle.answer_ask.specs.Facing.{Facing, Answered, Replied}
+use Rattle.answer_ask.specs.Facing.{Answered, Replied}
 use Rattle.answer_explain.specs.Explaining.{Explaining, Explained}
 use Rattle.answer_all.specs.declared.Spot.{Spot}
 use Rattle.answer_all.specs.Asking.{is_end_field, Asked, Asking, Meeting, note-met, question-met, Onward, onward, Stepped, passes, answers, Midway, Told}

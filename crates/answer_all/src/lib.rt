@@ -1,6 +1,8 @@
 // The questions of an accepted job, answered one after the other: each by the joins that were made before it, as a field of the
 // report. Document 01, "The job and the report"; document 02, No. 1. Rests on job_field, all_close, report_write, moment, pairs, answer_ask, answer_explain,
 // answer_broken and answer_why.
+#![tactic(auto)]
+
 ghost use Rattle.std.specs.Prelude.{◌≡◌, ℕ, ◌+◌, ◌*◌, ◌-◌, ◌≤◌, ◌<◌, min, length};
 ghost use Rattle.job_field.specs.Items.{start, needed_room};
 ghost use Rattle.job_field.specs.Reading.{head_in, items_in};
@@ -20,7 +22,7 @@ use pairs::mark_note;
 use report_write::write_totals;
 
 // How far the answers have come: the place in the job, the place in the room, and the records and the pairs that must differ passed.
-#[derive(Drop)]
+#[derive(Clone, Copy)]
 pub struct Spot {
     pub at: usize,
     pub out: usize,

@@ -1,5 +1,7 @@
 // The answer to an ask as a field of the report: written into the room, and tested where it stands. Both go by the joins that were made
 // before the question. Document 01, "The job and the report", and document 02, No. 3. Rests on moment, leading, report_write and report_read.
+#![tactic(auto)]
+
 ghost use Rattle.std.specs.Prelude.{◌≤◌, length};
 ghost use Rattle.job_field.specs.Items.{ask};
 ghost use Rattle.moment.specs.Posed.{head_of, Posed};
@@ -31,7 +33,7 @@ pub fn answer_ask(
 }
 
 // Whether a right field stands at a place: then the place behind it. Where a right reason stands and its sheets do not stand behind it, the place where they should.
-#[derive(Drop)]
+#[derive(Clone, Copy)]
 pub enum Passed {
     To(usize),
     Wrong,

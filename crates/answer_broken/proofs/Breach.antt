@@ -6,12 +6,12 @@ use mathlib.Core.Path.{◌≡◌, ◌∙◌, ap}
 use mathlib.Core.List.{List, [], ◌∷◌, ◌++◌}
 use lib.ListN.{length}
 use Rattle.meaning.specs.Reasons.{Reason}
-use Rattle.job_field.specs.Items.{Head, Pair, Moment, records_of, pairs_of, broken, room_for}
-use Rattle.job_field.specs.Reading.{head_in, items_in, matter_in}
+use Rattle.job_field.specs.Items.{Head, records_of, pairs_of, broken, room_for}
+use Rattle.job_field.specs.Reading.{items_in}
 use Rattle.table.specs.Map.{list_of, list_in, rec_at, records_in, Within}
 use Rattle.table.specs.Places.{Large, scratch}
 use Rattle.table.proofs.Frame.{within-refl, within-trans, length-gather}
-use Rattle.report.specs.Broken.{pair_no, Earliest, Unbroken}
+use Rattle.report.specs.Broken.{Earliest, Unbroken}
 use Rattle.report.specs.Report.{numbers, field, reasoned, breached, intact, after_records, laid}
 use Rattle.report.proofs.Bytes.{length-field, length-numbers}
 use Rattle.report.proofs.Laid.{length-laid}

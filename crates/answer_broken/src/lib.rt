@@ -1,6 +1,8 @@
 // The answer to a question 06 as a field of the report: the earliest pair that must differ and is equal by the records before the question, with a reason and
 // in edition 2 its sheets, or that there is none. Document 02, No. 1 and 9. Rests on pairs, moment, answer_ask, reason, report_write, report_numbers and
 // answer_sheets.
+#![tactic(auto)]
+
 ghost use Rattle.std.specs.Prelude.{◌+◌, ◌≤◌, length};
 ghost use Rattle.job_field.specs.Items.{broken, room_for};
 ghost use Rattle.report.specs.Report.{after_records};

@@ -9,7 +9,7 @@ use lib.ListN.{length}
 use Rattle.meaning.specs.Following.{Follows, UpTo}
 use Rattle.meaning.specs.Reasons.{Reason}
 use Rattle.job_field.specs.Items.{Head, Moment}
-use Rattle.job_field.specs.Reading.{head_in, matter_in}
+use Rattle.job_field.specs.Reading.{matter_in}
 use Rattle.table.specs.Map.{list_of, list_in, records_in, Within}
 use Rattle.table.specs.Places.{Large, scratch}
 use Rattle.table.proofs.Frame.{length-gather, within-trans}

@@ -1,5 +1,7 @@
 // The answer to an explain as a field of the report, by the joins that were made before the question, with the sheets of its reason behind it in edition 2.
 // Document 01, "Reasons" and "The job and the report"; document 02, No. 9. Rests on moment, answer_ask, reason, report_write, report_numbers and answer_sheets.
+#![tactic(auto)]
+
 ghost use Rattle.moment.specs.Posed.{head_of};
 ghost use Rattle.answer_explain.specs.Explaining.{Explaining, Explained};
 

@@ -1,5 +1,7 @@
 // The sheets of a reason as a field of the report, behind the reason's own, in edition 2 alone. Document 02, No. 9. Rests on table, job_field, report and
 // sheets_field.
+#![tactic(auto)]
+
 ghost use Rattle.answer_sheets.specs.Filing.{Fileable, FiledAt};
 
 use sheets_field::write_sheets;

@@ -1,6 +1,6 @@
 -- A why: the leaders of all tags where the table holds them, and whether the right field stands at a place of the report. Document 02, No. 7.
 -- Assumes nothing.
-use Rattle.std.specs.Prelude.{ℕ, ◌≤◌, ◌<◌, List, length}
+use Rattle.std.specs.Prelude.{ℕ, ◌≤◌, ◌<◌, List}
 use Rattle.job_field.specs.Items.{why}
 use Rattle.meaning.specs.Limits.{most_tags}
 use Rattle.table.specs.Map.{records_in, label_of, Within}

@@ -1,5 +1,7 @@
 // The answer to a why as a field of the report: the leader of every tag where the equality does not follow, and no body where it does. Written into the room, and
 // tested where it stands. Document 02, No. 7. Rests on moment, leading, report_write, report_read and answer_ask.
+#![tactic(auto)]
+
 ghost use Rattle.std.specs.Prelude.{◌≡◌, ◌↔◌, true, ℕ, ◌+◌, ◌*◌, ◌≤◌, ◌<◌, length};
 ghost use Rattle.job_field.specs.Items.{why};
 ghost use Rattle.meaning.specs.Limits.{most_tags};

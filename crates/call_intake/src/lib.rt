@@ -1,6 +1,8 @@
 // What both calls do first with what they are lent: lengths and job are looked at, the job's records go through the record table into the columns of
 // the work table, and the record table is cleared. From there on no record table is needed. Document 01, "What is lent, and each refusal". Rests on
 // call_look, records_fill and records.
+#![tactic(auto)]
+
 ghost use Rattle.call_intake.specs.Received.{Received};
 
 use call_look::{Sight, look};

@@ -1,5 +1,7 @@
 // What the two calls begin and end with: lengths and job are looked at before anything is stored, and the work table is given back. Document 01, "What is
 // lent, and each refusal". Rests on job_field, job_read, records, table and table_labels.
+#![tactic(auto)]
+
 ghost use Rattle.std.specs.Prelude.{◌≡◌, length, true, ◌≤◌};
 ghost use Rattle.call_look.specs.Look.{Viewed, Looked, declined};
 ghost use Rattle.job_field.specs.Reading.{longest};
@@ -23,7 +25,7 @@ pub const NAMED: usize = meaning::NAMED_NUMBERS;
 
 // What is known: whether the lengths are right, without which no table is touched; whether the call may go on, or the refusal; N, the number of
 // records, and the room that the report needs. The last three are 0 for a refusal.
-#[derive(Drop)]
+#[derive(Clone, Copy)]
 pub struct Sight {
     pub lent: bool,
     pub ready: bool,

@@ -1,5 +1,7 @@
 // The rest of a run and of a recheck once the record table has had its part. Document 01, "What is lent, and each refusal". Rests on call_look,
 // answer_all, all_close and judge.
+#![tactic(auto)]
+
 ghost use Rattle.call_look.specs.Begun.{Begun};
 ghost use Rattle.call_rest.specs.Finish.{Fitted, Finished};
 ghost use Rattle.std.specs.Prelude.{◌≡◌};
@@ -11,7 +13,7 @@ use call_look::{Sight, give_back};
 use judge::{Judgement, judge};
 
 // What a run answers: document 01's number, its place, and the length of the report.
-#[derive(Drop)]
+#[derive(Clone, Copy)]
 pub struct Answer {
     pub number: u8,
     pub place: usize,
@@ -61,7 +63,7 @@ pub fn finish(job: &[u8], room: &mut [u8], work: &mut [u16], s: Sight) -> Answer
 }
 
 // What a recheck answers: document 01's number and its place.
-#[derive(Drop)]
+#[derive(Clone, Copy)]
 pub struct Finding {
     pub number: u8,
     pub place: usize,

@@ -20,67 +20,74 @@ fn front_table(s: &mut [u16], n: usize) -> &mut [u16] {
     if n <= s.len() { &mut s[..n] } else { s }
 }
 
-fn recheck_with(job: &[u8], report: &[u8], work: &mut [u16], r: Rubbish) {
+fn recheck_with(rt: &HostRuntime, job: &[u8], report: &[u8], work: &mut [u16], r: Rubbish) {
     soil_table(work, r);
     let found = recheck_over(job, report, work, record_of(r));
-    look_table(work, found.number, r);
-    put_answer(b'C', found.number, found.place);
+    look_table(rt, work, found.number, r);
+    put_answer(rt, b'C', found.number, found.place);
 }
 
 // Rechecks a report over so many places of a table of rubbish.
-pub fn recheck_at(job: &[u8], report: &[u8], places: usize, r: Rubbish) {
+pub fn recheck_at(rt: &HostRuntime, job: &[u8], report: &[u8], places: usize, r: Rubbish) {
     let mut space = [0u16; 32832];
-    recheck_with(job, report, front_table(&mut space, places), r);
+    recheck_with(rt, job, report, front_table(&mut space, places), r);
 }
 
-fn run_with(job: &[u8], room: &mut [u8], work: &mut [u16], r: Rubbish) -> Answer {
+fn run_with(rt: &HostRuntime, job: &[u8], room: &mut [u8], work: &mut [u16], r: Rubbish) -> Answer {
     soil_table(work, r);
     let ran = run_over(job, room, work, record_of(r));
-    look_table(work, ran.number, r);
+    look_table(rt, work, ran.number, r);
     ran
 }
 
 // Runs a job over so many places of a table of rubbish, with rubbish in the room.
-fn run_at(job: &[u8], room: &mut [u8], places: usize, r: Rubbish) -> Answer {
+fn run_at(rt: &HostRuntime, job: &[u8], room: &mut [u8], places: usize, r: Rubbish) -> Answer {
     let mut space = [0u16; 32832];
     soil_room(room, r);
-    let ran = run_with(job, room, front_table(&mut space, places), r);
-    look_room(room, ran.length, r);
+    let ran = run_with(rt, job, room, front_table(&mut space, places), r);
+    look_room(rt, room, ran.length, r);
     ran
 }
 
-fn again(job: &[u8], report: &[u8], clean: &mut [u8], places: usize, ran: Answer) {
-    let other = run_at(job, clean, places, rubbish_of(CLEAN));
-    tell(ran.number == other.number);
-    tell(ran.place == other.place);
-    tell(check::same(report, front(clean, other.length)));
+fn again(
+    rt: &HostRuntime,
+    job: &[u8],
+    report: &[u8],
+    clean: &mut [u8],
+    places: usize,
+    ran: Answer,
+) {
+    let other = run_at(rt, job, clean, places, rubbish_of(CLEAN));
+    tell(rt, ran.number == other.number);
+    tell(rt, ran.place == other.place);
+    tell(rt, report == front(clean, other.length));
 }
 
 // Where nothing lent is dirty the run must say the same, byte for byte.
-fn alike(job: &[u8], report: &[u8], size: usize, places: usize, ran: Answer) {
+fn alike(rt: &HostRuntime, job: &[u8], report: &[u8], size: usize, places: usize, ran: Answer) {
     let mut space = [0u8; 65536];
-    again(job, report, front_room(&mut space, size), places, ran);
+    again(rt, job, report, front_room(&mut space, size), places, ran);
 }
 
 // What is written of a run, and of its recheck.
-fn put_run(job: &[u8], report: &[u8], places: usize, r: Rubbish) {
-    put_number(report.len());
-    write_output(report);
-    recheck_at(job, report, places, r);
+fn put_run(rt: &HostRuntime, job: &[u8], report: &[u8], places: usize, r: Rubbish) {
+    put_number(rt, report.len());
+    write_output(rt, report);
+    recheck_at(rt, job, report, places, r);
 }
 
-fn answer_in(job: &[u8], room: &mut [u8], places: usize, r: Rubbish) {
-    let ran = run_at(job, room, places, r);
+fn answer_in(rt: &HostRuntime, job: &[u8], room: &mut [u8], places: usize, r: Rubbish) {
+    let ran = run_at(rt, job, room, places, r);
     let report = front(room, ran.length);
-    alike(job, report, room.len(), places, ran);
-    put_answer(b'R', ran.number, ran.place);
-    put_run(job, report, places, r);
+    alike(rt, job, report, room.len(), places, ran);
+    put_answer(rt, b'R', ran.number, ran.place);
+    put_run(rt, job, report, places, r);
 }
 
 // All that is written of a job with one loan.
-pub fn answer(job: &[u8], size: usize, places: usize, r: Rubbish) {
+pub fn answer(rt: &HostRuntime, job: &[u8], size: usize, places: usize, r: Rubbish) {
     let mut space = [0u8; 65536];
-    put_bytes(b"J", job);
-    put_loan(size, places);
-    answer_in(job, front_room(&mut space, size), places, r);
+    put_bytes(rt, b"J", job);
+    put_loan(rt, size, places);
+    answer_in(rt, job, front_room(&mut space, size), places, r);
 }

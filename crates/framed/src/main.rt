@@ -2,6 +2,8 @@
 // Before each call room and tables are filled with rubbish that differs from call to call, and after it room and work table are looked at: where they did
 // not end as document 01 says, "What is lent, and each refusal", a frame X tells of it. No contract says what is written: the second program judges that.
 // This file reads the stream and says what is lent for each frame. Rests on haltzurme_own, records, job_read and console.
+#![tactic(auto)]
+
 ghost use Rattle.std.specs.Prelude.{◌≤◌};
 
 use answers::{answer, front, recheck_at};
@@ -20,7 +22,7 @@ pub const NAMED: usize = 32768;
 const ROOM: usize = 60000;
 
 // Where the stream stands: whether it goes on, the length of the job at hand, and the places of the table that were lent for it.
-#[derive(Drop)]
+#[derive(Clone, Copy)]
 struct Stand {
     on: bool,
     length: usize,
@@ -49,7 +51,7 @@ fn needed(job: &[u8]) -> usize {
 }
 
 // The room and the places of the work table that are lent for a job.
-#[derive(Drop)]
+#[derive(Clone, Copy)]
 struct Loan {
     size: usize,
     places: usize,
@@ -78,14 +80,14 @@ fn too_little(need: usize, count: usize) -> Loan {
 }
 
 // Every fourth frame, where it is a job, is answered with too little first.
-fn with_job(job: &[u8], count: usize) -> Stand {
+fn with_job(rt: &HostRuntime, job: &[u8], count: usize) -> Stand {
     let need = needed(job);
     if count % 4 == 1 {
         let poor = too_little(need, count);
-        answer(job, poor.size, poor.places, rubbish_of(count));
+        answer(rt, job, poor.size, poor.places, rubbish_of(count));
     }
     let loan = enough(need, count);
-    answer(job, loan.size, loan.places, rubbish_of(count));
+    answer(rt, job, loan.size, loan.places, rubbish_of(count));
     Stand {
         on: true,
         length: job.len(),
@@ -102,15 +104,15 @@ fn halt() -> Stand {
 }
 
 // A letter that is no frame's has the judge refuse the whole stream.
-fn broken() -> Stand {
-    write_output(b"!");
-    write_error(b"framed: the stream is broken\n");
+fn broken(rt: &HostRuntime) -> Stand {
+    write_output(rt, b"!");
+    write_error(rt, b"framed: the stream is broken\n");
     halt()
 }
 
 // How many bytes came, or a number that is none of theirs.
-fn fetch(part: &mut [u8]) -> usize {
-    let got = read_input(part);
+fn fetch(rt: &HostRuntime, part: &mut [u8]) -> usize {
+    let got = read_input(rt, part);
     match got {
         Got::Bytes(m) => m,
         Got::Broken => usize::MAX,
@@ -118,33 +120,46 @@ fn fetch(part: &mut [u8]) -> usize {
 }
 
 // Whether so many bytes came, and there is space for them.
-fn fetch_front(space: &mut [u8], n: usize) -> bool {
+fn fetch_front(rt: &HostRuntime, space: &mut [u8], n: usize) -> bool {
     if n <= space.len() {
-        fetch(&mut space[..n]) == n
+        fetch(rt, &mut space[..n]) == n
     } else {
         false
     }
 }
 
-fn job_frame(job: &mut [u8], n: usize, count: usize) -> Stand {
-    if fetch_front(job, n) {
-        with_job(front(job, n), count)
+fn job_frame(rt: &HostRuntime, job: &mut [u8], n: usize, count: usize) -> Stand {
+    if fetch_front(rt, job, n) {
+        with_job(rt, front(job, n), count)
     } else {
-        broken()
+        broken(rt)
     }
 }
 
-fn with_report(job: &[u8], report: &[u8], s: Stand, count: usize) -> Stand {
-    put_bytes(b"P", report);
-    recheck_at(front(job, s.length), report, s.places, rubbish_of(count));
+fn with_report(rt: &HostRuntime, job: &[u8], report: &[u8], s: Stand, count: usize) -> Stand {
+    put_bytes(rt, b"P", report);
+    recheck_at(
+        rt,
+        front(job, s.length),
+        report,
+        s.places,
+        rubbish_of(count),
+    );
     s
 }
 
-fn report_frame(job: &[u8], report: &mut [u8], n: usize, s: Stand, count: usize) -> Stand {
-    if fetch_front(report, n) {
-        with_report(job, front(report, n), s, count)
+fn report_frame(
+    rt: &HostRuntime,
+    job: &[u8],
+    report: &mut [u8],
+    n: usize,
+    s: Stand,
+    count: usize,
+) -> Stand {
+    if fetch_front(rt, report, n) {
+        with_report(rt, job, front(report, n), s, count)
     } else {
-        broken()
+        broken(rt)
     }
 }
 
@@ -154,16 +169,16 @@ fn number(a: u8, b: u8, c: u8, d: u8) -> usize {
 }
 
 // The head of a frame: how many of its bytes came, its letter where all did, and the bytes behind it.
-#[derive(Drop)]
+#[derive(Clone, Copy)]
 struct Head {
     got: usize,
     letter: u8,
     size: usize,
 }
 
-fn read_head() -> Head {
+fn read_head(rt: &HostRuntime) -> Head {
     let mut space = [0u8; 5];
-    let got = fetch(&mut space);
+    let got = fetch(rt, &mut space);
     let letter = if got == 5 { space[0] } else { b'!' };
     Head {
         got,
@@ -173,21 +188,21 @@ fn read_head() -> Head {
 }
 
 // A stream ends in front of a head, and has no other letters than these.
-fn turn(job: &mut [u8], report: &mut [u8], s: Stand, count: usize) -> Stand {
-    let head = read_head();
+fn turn(rt: &HostRuntime, job: &mut [u8], report: &mut [u8], s: Stand, count: usize) -> Stand {
+    let head = read_head(rt);
     if head.letter == b'J' {
-        job_frame(job, head.size, count)
+        job_frame(rt, job, head.size, count)
     } else if head.letter == b'P' {
-        report_frame(job, report, head.size, s, count)
+        report_frame(rt, job, report, head.size, s, count)
     } else if head.got == 0 {
         halt()
     } else {
-        broken()
+        broken(rt)
     }
 }
 
 // Nothing says that a stream ends, so the frames are counted up to a number that no stream has.
-fn serve(job: &mut [u8], report: &mut [u8]) {
+fn serve(rt: &HostRuntime, job: &mut [u8], report: &mut [u8]) {
     let mut s = Stand {
         on: true,
         length: 0,
@@ -195,19 +210,19 @@ fn serve(job: &mut [u8], report: &mut [u8]) {
     };
     let mut count: usize = 0;
     while count < usize::MAX && s.on {
-        s = turn(job, report, s, count);
+        s = turn(rt, job, report, s, count);
         count += 1;
     }
 }
 
 // No report here is longer than 300,000. Their bytes are lent once, since filling them takes longer than a recheck.
-fn with_reports(job: &mut [u8]) {
+fn with_reports(rt: &HostRuntime, job: &mut [u8]) {
     let mut space = [0u8; 300000];
-    serve(job, &mut space);
+    serve(rt, job, &mut space);
 }
 
 // 54,511 bytes, one more than the longest job allowed: one of more than 54,510 is refused whatever its length.
-fn main() {
+fn main(rt: HostRuntime) {
     let mut space = [0u8; 54511];
-    with_reports(&mut space);
+    with_reports(&rt, &mut space);
 }

@@ -5,7 +5,7 @@ use meaning::Tag;
 use records::Record;
 
 // What stands first, and the step from each to the next.
-#[derive(Drop)]
+#[derive(Clone, Copy)]
 pub struct Rubbish {
     pub first: u16,
     pub step: u16,
@@ -40,7 +40,7 @@ pub fn soil_table(work: &mut [u16], r: Rubbish) {
     let mut i: usize = 0;
     while i < work.len() {
         work[i] = value;
-        value = std::num::wrapping_add_u16(value, r.step);
+        value = value.wrapping_add(r.step);
         i += 1;
     }
 }
@@ -55,17 +55,17 @@ fn zeros_after(number: u8) -> usize {
 }
 
 // After an answer of this number: the zeros at the front, and the rubbish behind them as it was.
-pub fn look_table(work: &[u16], number: u8, r: Rubbish) {
+pub fn look_table(rt: &HostRuntime, work: &[u16], number: u8, r: Rubbish) {
     let zeros = zeros_after(number);
     let mut value = r.first;
     let mut i: usize = 0;
     while i < work.len() {
         let due = if i < zeros { 0 } else { value };
         if work[i] != due {
-            tell(false);
+            tell(rt, false);
             return;
         }
-        value = std::num::wrapping_add_u16(value, r.step);
+        value = value.wrapping_add(r.step);
         i += 1;
     }
 }
@@ -79,21 +79,21 @@ pub fn soil_room(room: &mut [u8], r: Rubbish) {
     let mut i: usize = 0;
     while i < room.len() {
         room[i] = low(value);
-        value = std::num::wrapping_add_u16(value, r.step);
+        value = value.wrapping_add(r.step);
         i += 1;
     }
 }
 
 // The rubbish behind the first so many bytes is as it was.
-pub fn look_room(room: &[u8], from: usize, r: Rubbish) {
+pub fn look_room(rt: &HostRuntime, room: &[u8], from: usize, r: Rubbish) {
     let mut value = r.first;
     let mut i: usize = 0;
     while i < room.len() {
         if i >= from && room[i] != low(value) {
-            tell(false);
+            tell(rt, false);
             return;
         }
-        value = std::num::wrapping_add_u16(value, r.step);
+        value = value.wrapping_add(r.step);
         i += 1;
     }
 }

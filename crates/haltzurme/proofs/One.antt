@@ -13,15 +13,15 @@ use Rattle.meaning.proofs.Looks.{led-one}
 use Rattle.meaning.proofs.Units.{leader-one}
 use Rattle.meaning.proofs.Laws.{classes-one, idles-one, reason-follows}
 use Rattle.meaning.specs.Limits.{named_numbers, named_places}
-use Rattle.job_field.specs.Items.{Head, Matter, matter_of, Moment, start, after, ask, broken, why, Item, posed, Reading, refused, accepted, needed_room}
+use Rattle.job_field.specs.Items.{Head, Matter, matter_of, Moment, start, after, Question, ask, explain, broken, why, Item, posed, Reading, refused, accepted, needed_room}
 use Rattle.job_field.specs.Reading.{reading}
 use Rattle.records.specs.declared.Record.{Record}
 use Rattle.records.specs.Table.{blank, Blanked}
-use Rattle.report.specs.Broken.{Earliest, PairReason}
+use Rattle.report.specs.Broken.{Earliest, PairReason, Unbroken}
 use Rattle.report.proofs.Broken.{earliest-one, earliest-some}
 use Rattle.report.proofs.Known.{no-reason}
 use Rattle.sheets_field.proofs.Field.{sheets-one}
-use Rattle.report.specs.Report.{numbers, field, because, breached, Filed, unfiled, filed, led, reasoned, apart, intact, parted, joined, Totalled, total, Sound, totals, passed, answered}
+use Rattle.report.specs.Report.{numbers, field, Reasoned, because, breached, Filed, unfiled, filed, led, reasoned, apart, intact, parted, joined, Totalled, total, Sound, totals, passed, answered}
 use Rattle.call_look.specs.Clear.{Cleared}
 use Rattle.call_look.specs.Lent.{Lent}
 use Rattle.haltzurme.specs.Run.{Ran, long, narrow, unread, cramped, done}
@@ -67,26 +67,41 @@ parted-alike : {M : Matter} {b : Moment} {s t : ℕ} {L L' : List ℕ} {is : Lis
     → Alike M (after (posed (why s t)) b) is bs bs' → Alike M b (posed (why s t) ∷ is) (field 136 (numbers L) ++ bs) (field 136 (numbers L') ++ bs')
 parted-alike n d p a = rw p (alike.answered (parted n d) a)
 
+-- Two reasons for one question, each with what stands behind it.
+reasoned-alike : {M : Matter} {b : Moment} {q : Question} {is : List Item} {L L' f f' g g' bs bs' : List ℕ} → Reasoned M b q L f → Reasoned M b q L' f' → Filed M L g → Filed M L' g'
+    → Alike M (after (posed q) b) is bs bs' → Alike M b (posed q ∷ is) ((f ++ g) ++ bs) ((f' ++ g') ++ bs')
+reasoned-alike (because r) (because r') s s' a = alike.reasoned r r' s s' a
+reasoned-alike (breached e r) (breached e' r') s s' a = breach-alike e e' r r' s s' a
+
+-- What has a reason is not apart, and not unbroken.
+reason-apart : {M : Matter} {b : Moment} {s t : ℕ} {L f : List ℕ} → Reasoned M b (explain s t) L f → (Follows (UpTo M.records b.records) s t → ⊥) → ⊥
+reason-apart (because r) n = n (reason-follows r)
+
+reason-intact : {M : Matter} {b : Moment} {L f : List ℕ} → Reasoned M b broken L f → Unbroken M.records b.records M.pairs b.differs → ⊥
+reason-intact (breached e r) n = earliest-some e n
+
 -- Two sound reports of the same items differ at most in the choice among reasons.
 pub sound-alike : {M : Matter} {b : Moment} {is : List Item} {bs bs' : List ℕ} → Sound M b is bs → Sound M b is bs' → Alike M b is bs bs'
 sound-alike (totals t) (totals u) = rw (totalled-one t u) (alike.totals u)
 sound-alike (passed s) (passed u) = alike.passed (sound-alike s u)
 sound-alike (answered (led h k) s) (answered (led h' k') u) = led-alike h' k' (leader-one h h') (leader-one k k') (sound-alike s u)
 sound-alike (answered (led h k) s) (answered (reasoned r g) u) = absurd (no-reason refl r)
-sound-alike (answered (reasoned (because r) f) s) (answered (reasoned (because r') f') u) = alike.reasoned r r' f f' (sound-alike s u)
-sound-alike (answered (reasoned (because r) f) s) (answered (apart n) u) = absurd (n (reason-follows r))
-sound-alike (answered (apart n) s) (answered (reasoned (because r) f) u) = absurd (n (reason-follows r))
+sound-alike (answered (reasoned r g) s) (answered (led h k) u) = absurd (no-reason refl r)
+sound-alike (answered (reasoned r f) s) (answered (reasoned r' f') u) = reasoned-alike r r' f f' (sound-alike s u)
+sound-alike (answered (reasoned r f) s) (answered (apart n) u) = absurd (reason-apart r n)
+sound-alike (answered (apart n) s) (answered (reasoned r f) u) = absurd (reason-apart r n)
 sound-alike (answered (apart n) s) (answered (apart n') u) = alike.answered (apart n) (sound-alike s u)
-sound-alike (answered (reasoned (breached e r) f) s) (answered (reasoned (breached e' r') f') u) = breach-alike e e' r r' f f' (sound-alike s u)
-sound-alike (answered (reasoned (breached e r) f) s) (answered (intact n) u) = absurd (earliest-some e n)
-sound-alike (answered (intact n) s) (answered (reasoned (breached e r) f) u) = absurd (earliest-some e n)
+sound-alike (answered (reasoned r f) s) (answered (intact n) u) = absurd (reason-intact r n)
+sound-alike (answered (intact n) s) (answered (reasoned r f) u) = absurd (reason-intact r n)
 sound-alike (answered (intact n) s) (answered (intact n') u) = alike.answered (intact n) (sound-alike s u)
 sound-alike (answered (parted n d) s) (answered (parted n' d') u) = parted-alike n' d' (led-one d d') (sound-alike s u)
 sound-alike (answered (parted n d) s) (answered (joined f) u) = absurd (n f)
 sound-alike (answered (joined f) s) (answered (parted n d) u) = absurd (n f)
 sound-alike (answered (joined f) s) (answered (joined f') u) = alike.answered (joined f) (sound-alike s u)
 sound-alike (answered (parted n d) s) (answered (reasoned r g) u) = absurd (no-reason refl r)
+sound-alike (answered (reasoned r g) s) (answered (parted n d) u) = absurd (no-reason refl r)
 sound-alike (answered (joined f) s) (answered (reasoned r g) u) = absurd (no-reason refl r)
+sound-alike (answered (reasoned r g) s) (answered (joined f) u) = absurd (no-reason refl r)
 
 -- What is long enough is not short.
 pub lent-not : {job : List ℕ} {records : List Record} {work : List ℕ} → Lent job records work → (length records < named_places) ⊎ (length work < named_numbers) → ⊥

@@ -4,10 +4,10 @@
 use Prim.Native.Nat.{ℕ}
 use native.Mathlib.Omega.{arith}
 use mathlib.Core.Path.{◌≡◌, refl}
-use mathlib.Core.List.{List, [], ◌∷◌}
+use mathlib.Core.List.{List}
 use lib.ListN.{length, take}
 use lib.Seq.{take_at}
-use Rattle.job_field.specs.Items.{Head, matter_of, start, Item, Reading, refused, accepted}
+use Rattle.job_field.specs.Items.{Head, matter_of, start, Item, accepted}
 use Rattle.job_field.specs.Reading.{reading}
 use Rattle.job_field.proofs.Numbers.{refused-some}
 use Rattle.records.specs.declared.Record.{Record}

@@ -1,6 +1,8 @@
 // The tool's two calls. Document 01, "What is lent, and each refusal". Neither has a condition on its caller: every job, room, report and table gets the
 // answer that specs/ defines. What two outcomes of a call have in common, and that the recheck passes what the run writes, is proved here. Rests on
 // call_intake, where the record table has its part, and on call_rest.
+#![tactic(auto)]
+
 ghost use Rattle.haltzurme.specs.Run.{Ran};
 ghost use Rattle.haltzurme.specs.Recheck.{Rechecked};
 

@@ -1,6 +1,8 @@
 // The tool for C: the run and the recheck, those of the harness profile, the passes and the translation of a script on plain pointers and lengths. A slice is passed as a
 // pointer and then a length; include/haltzurme.h declares the functions. They lend a record table of their own, or need none, and have no condition on their caller. Rests on
 // haltzurme_own, harness_own, slow_own and script_call.
+#![tactic(auto)]
+
 ghost use Rattle.std.specs.Prelude.{ℕ, true, false};
 ghost use Rattle.haltzurme_own.specs.Plain.{RanAlone, RecheckedAlone};
 ghost use Rattle.slow_own.specs.Plain.{CountedAlone};

@@ -1,2 +1,1 @@
-mod Local
 pub mod Inside

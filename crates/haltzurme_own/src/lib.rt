@@ -1,6 +1,8 @@
 // The tool's two calls for a caller that holds no record table: each lends one of its own, 4,000 places that are blank. Document 01, "What is lent, and
 // each refusal". No call here has a condition on its caller. The `_over` calls lend places that all hold a record of the caller's choice, for tests
 // with a dirty table. Rests on call_intake and call_rest.
+#![tactic(auto)]
+
 ghost use Rattle.haltzurme_own.specs.Own.{ReceivedOver};
 ghost use Rattle.std.specs.Prelude.{◌≡◌};
 ghost use Rattle.records.specs.Table.{blank};

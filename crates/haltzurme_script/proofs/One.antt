@@ -1,19 +1,19 @@
 -- Two outcomes that meet the call's promise on the same lent things are one: reading is a function, the cases exclude each other, and a table of a length whose places are all
 -- told is one. Assumes nothing.
-use Prim.Native.Nat.{ℕ, ◌≤◌, ◌<◌}
+use Prim.Native.Nat.{ℕ, ◌≤◌}
 use native.Mathlib.Omega.{arith}
-use mathlib.Core.Path.{◌≡◌, refl, sym, ◌∙◌, ap}
-use mathlib.Core.Logic.{◌⊎◌, inl, inr}
-use mathlib.Core.Bool.{Bool, true, false}
+use mathlib.Core.Path.{◌≡◌, refl, ap}
+use mathlib.Core.Logic.{inl, inr}
+use mathlib.Core.Bool.{Bool}
 use mathlib.Core.List.{List, ◌++◌}
 use lib.ListN.{length, drop}
-use Rattle.meaning.specs.Limits.{named_numbers, named_places}
+use Rattle.meaning.specs.Limits.{named_places}
 use Rattle.records.specs.declared.Record.{Record}
 use Rattle.haltzurme.proofs.One.{cleared-one, blanked-one}
 use Rattle.script_terms.specs.Terms.{Command}
-use Rattle.script_meaning.specs.Reading.{Got, fault, got, reading}
+use Rattle.script_meaning.specs.Reading.{Got, fault, got}
 use Rattle.script_meaning.specs.Bytes.{job_of}
-use Rattle.script_call.specs.Translating.{job_room, Converted, unread, done, Enough, Narrow}
+use Rattle.script_call.specs.Translating.{Converted, unread, done, Enough, Narrow}
 use Rattle.haltzurme_script.specs.Translated.{Translated, long, narrow, read}
 
 -- Every part of two outcomes is one.

@@ -1,9 +1,9 @@
 -- Document 02, No. 4: "Promise: two declared constants follow equal in the job exactly when they are equal in every congruence on the script's terms that holds its equations",
 -- for every script that the call accepts; and the job that it writes is always accepted by the reading. Assumes nothing.
-use Prim.Native.Nat.{ℕ, ◌≤◌, ◌<◌}
+use Prim.Native.Nat.{ℕ}
 use native.Mathlib.Omega.{arith}
-use mathlib.Core.Path.{◌≡◌, refl, sym, ◌∙◌, ap, subst}
-use mathlib.Core.Bool.{Bool, true, false}
+use mathlib.Core.Path.{◌≡◌, refl}
+use mathlib.Core.Bool.{Bool}
 use mathlib.Core.List.{List, ◌++◌}
 use lib.ListN.{length, drop}
 use Rattle.records.specs.declared.Record.{Record}

@@ -1,5 +1,7 @@
 // The tool's call for scripts. Document 02, No. 4: "The caller lends 46,510 bytes for the job, and the tables; they end as 01's room and tables do." It has no condition
 // on its caller: every script, room and table gets the answer that specs/ defines. Rests on script_call, and on records for the table that it clears.
+#![tactic(auto)]
+
 ghost use Rattle.haltzurme_script.specs.Translated.{Translated};
 
 use records::{Record, clear};

@@ -1,6 +1,8 @@
 // The two calls of the harness profile, for jobs with kind 01 records only. Document 02, No. 8. Neither has a condition on its caller: every job, room, report and table gets
 // the answer that specs/ defines. Two outcomes of a call are one, the report among them, and the recheck passes what the run writes: proved here. Rests on call_intake,
 // where the record table has its part, and on harness_rest.
+#![tactic(auto)]
+
 ghost use Rattle.harness.specs.Run.{HarnessRan};
 ghost use Rattle.harness.specs.Recheck.{HarnessRechecked};
 

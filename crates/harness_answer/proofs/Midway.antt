@@ -8,14 +8,14 @@ use mathlib.Core.Bool.{true, false}
 use mathlib.Core.List.{List, [], ◌∷◌, ◌++◌, append_assoc}
 use lib.ListN.{length, length-append}
 use Rattle.job_field.specs.Items.{Head, Note, stands_for, pairs_noted, Moment, start, after, Question, ask, explain, why, room_for, Item, noted, posed, records_of, pairs_of, needed_room}
-use Rattle.job_field.specs.Reading.{Field, bad, header, item, end, behind_at, field_standing, head_in, items_in, matter_in}
+use Rattle.job_field.specs.Reading.{Field, item, end, behind_at, field_standing, head_in, items_in, matter_in}
 use Rattle.job_field.specs.Standing.{Met}
 use Rattle.job_field.proofs.Items.{stands-few}
 use Rattle.job_field.proofs.Standing.{stands-item, stands-end, stands-first, stands-last, stands-within}
 use Rattle.table.specs.Map.{records_in, Within}
 use Rattle.table.proofs.Frame.{within-refl, within-trans, within_wider}
 use Rattle.table.specs.Places.{LIST, behind_joins, from_to}
-use Rattle.report.specs.Report.{Known, after_records, laid}
+use Rattle.report.specs.Report.{Known, after_records}
 use Rattle.harness_report.specs.Report.{HarnessAnswers, asked, doubted, passed, answered}
 use Rattle.harness_report.proofs.Fits.{harness-answers-fits}
 use Rattle.report.proofs.Known.{room-known}
@@ -24,7 +24,7 @@ use Rattle.moment.proofs.Kept.{kept-past, kept-records}
 use Rattle.pairs.specs.Marks.{Marking, Noted}
 use Rattle.pairs.specs.Breaking.{Breaking, Guarded}
 use Rattle.pairs.proofs.Breaking.{guarded-begin, guarded-kept, guarded-note, guarded-room, breaking-here}
-use Rattle.answer_ask.specs.Facing.{Facing, Answered}
+use Rattle.answer_ask.specs.Facing.{Answered}
 use Rattle.answer_all.specs.declared.Spot.{Spot}
 use Rattle.answer_all.specs.Asking.{Asked, Asking, Meeting, note-met, question-met}
 use Rattle.harness_read.specs.Profile.{Equations, ends_at}

@@ -1,6 +1,6 @@
 -- MACHINERY for the proofs; no meaning rests on it. Answering the questions of a plain harness sheet, each by the records before it, as answer_all/specs has it, with this
 -- profile's reports. Assumes nothing.
-use Rattle.std.specs.Prelude.{ℕ, ◌+◌, ◌≤◌, ◌<◌, ◌≡◌, List, [], ◌∷◌, ◌++◌, length, drop}
+use Rattle.std.specs.Prelude.{ℕ, ◌+◌, ◌≤◌, ◌≡◌, List, [], ◌∷◌, ◌++◌, length, drop}
 use Rattle.job_field.specs.Items.{Head, Note, stands_for, pairs_noted, Moment, start, Question, explain, Item, noted, posed, records_of, pairs_of, needed_room}
 use Rattle.job_field.specs.Reading.{Field, item, head_in, items_in, matter_in}
 use Rattle.job_field.specs.Standing.{Stands}

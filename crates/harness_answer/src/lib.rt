@@ -1,6 +1,8 @@
 // The questions of an accepted plain harness sheet, answered one after the other, each by the records before it. Document 02, No. 8. An ask and a why are answered as
 // elsewhere; an explain and a 06 by the one reason of this profile, with its sheets behind it in edition 2 (No. 9). Rests on job_field, all_close, report_write, report_numbers, moment, pairs, answer_ask, answer_why,
 // answer_all (how far the answers have come), answer_sheets, harness_read and harness_reason.
+#![tactic(auto)]
+
 ghost use Rattle.std.specs.Prelude.{◌≡◌, ℕ, ◌+◌, ◌*◌, ◌-◌, ◌≤◌, ◌<◌, min, length};
 ghost use Rattle.job_field.specs.Items.{start, needed_room, room_for, broken};
 ghost use Rattle.job_field.specs.Reading.{head_in, items_in};

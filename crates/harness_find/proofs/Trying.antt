@@ -9,7 +9,7 @@ use lib.ListN.{length, set, length-set}
 use borrow.Author.Tests.{eq-eqb, ne_eqb}
 use Rattle.meaning.specs.Joins.{put}
 use Rattle.meaning.specs.Limits.{most_tags, most_records}
-use Rattle.table.specs.Map.{left_of, right_of, Within}
+use Rattle.table.specs.Map.{left_of, right_of}
 use Rattle.table.specs.Places.{behind_columns}
 use Rattle.table.proofs.Frame.{seen-in, seen-out, within-refl, within-trans, within-set}
 use Rattle.table.proofs.Kept.{lefts, rights}

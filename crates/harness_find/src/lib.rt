@@ -1,5 +1,7 @@
 // The reason of a plain harness sheet, found: a search by levels from one tag over the equations before the question, with the best last record for each
 // tag, and the records of the way back. Document 02, No. 8. Rests on harness_meaning, for why it is right, on harness_table, where it stands, and on table.
+#![tactic(auto)]
+
 ghost use Rattle.std.specs.Prelude.{◌≡◌, ℕ, suc, ◌+◌, ◌≤◌, ◌<◌, min, length};
 ghost use Rattle.meaning.specs.Limits.{most_records, most_tags};
 ghost use Rattle.table.specs.Map.{left_of, right_of};

@@ -17,7 +17,7 @@ use Rattle.table.specs.Map.{records_in, Within}
 use Rattle.table.specs.Past.{Past}
 use Rattle.table.specs.Places.{behind_joins, scratch}
 use Rattle.pairs.specs.Marks.{Marking, Noted}
-use Rattle.pairs.specs.Breaking.{Breaking, Guarded}
+use Rattle.pairs.specs.Breaking.{Guarded}
 use Rattle.pairs.proofs.Breaking.{guarded-begin, guarded-kept, guarded-note, guarded-room, breaking-here}
 use Rattle.report.specs.Report.{numbers, field, Filed, Totalled, total}
 use Rattle.report.specs.Fault.{Stands}

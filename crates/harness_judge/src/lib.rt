@@ -1,6 +1,8 @@
 // The judge of a report of a plain harness sheet against its job, over the table that the closure left: the report fields are compared in order, and the judge stops at the
 // first that is at fault. Document 02, No. 8, "Its recheck uses this rule", and No. 9. Rests on job_field, pairs, answer_ask, answer_why, judge (what is answered, and how far the
 // judge has come) and harness_test.
+#![tactic(auto)]
+
 ghost use Rattle.std.specs.Prelude.{◌≡◌};
 ghost use Rattle.job_field.specs.Answer.{question_said};
 ghost use Rattle.job_field.specs.Reading.{head_in, items_in};

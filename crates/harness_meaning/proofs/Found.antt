@@ -1,6 +1,6 @@
 -- The search level by level, to its end: where equality follows, the other tag is found within N - 1 levels, and the records of the way back from it, in rising order, are
 -- the harness reason. Assumes nothing.
-use Prim.Native.Nat.{ℕ, zero, suc, ◌≤◌, ◌<◌, ◌-◌}
+use Prim.Native.Nat.{ℕ, zero, suc, ◌≤◌, ◌<◌}
 use native.Mathlib.Omega.{arith}
 use native.Mathlib.Decide.{ℕ_discrete, dec_le}
 use mathlib.Core.Path.{◌≡◌, refl, sym, ◌∙◌, ap}

@@ -15,9 +15,12 @@ use Rattle.harness_meaning.specs.Harness.{Smaller, differ, agree}
 use Rattle.harness_meaning.specs.Search.{Distinct, empty, more, Same, Ahead, NotAfter}
 
 -- Smaller is a strict order of lists, ..
+smaller-apart : {L M : List ℕ} → Smaller L M → L ≡ M → ⊥
+smaller-apart (differ {k = k} {m = m} l) e = let q : k ≡ m = cc in omega arith
+smaller-apart (agree {L = L} {M = M} h) e = let q : L ≡ M = cc in smaller-apart h q
+
 pub smaller-not : {L : List ℕ} → Smaller L L → ⊥
-smaller-not (differ l) = omega arith
-smaller-not (agree h) = smaller-not h
+smaller-not h = smaller-apart h refl
 
 pub smaller-trans : {L M K : List ℕ} → Smaller L M → Smaller M K → Smaller L K
 smaller-trans (differ {k = k} l) (differ {m = n} l') = let o : k < n = omega arith in differ o

@@ -1,5 +1,7 @@
 // The two calls of the harness profile for a caller that holds no record table: each lends one of its own, 4,000 places that are blank. Document 02, No. 8. No call here has a
 // condition on its caller. Rests on haltzurme_own, where the record table is made, and on harness_rest.
+#![tactic(auto)]
+
 ghost use Rattle.harness_own.specs.Own.{HarnessRanAlone, HarnessRecheckedAlone};
 
 use call_rest::{Answer, Finding};

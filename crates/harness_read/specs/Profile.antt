@@ -1,6 +1,6 @@
 -- DEFINITIONS, to be read against document 02, No. 8, "refuses kind 02" and "Refusals: 4 for kind 02 here": the reading of the harness profile, field by field as document 01
 -- has it, with 02 for an unknown kind. Assumes nothing.
-use Rattle.std.specs.Prelude.{ℕ, zero, suc, ◌+◌, ◌<◌, Bool, true, false, cond, ◌&&◌, List, [], ◌∷◌, leb, ltb, length}
+use Rattle.std.specs.Prelude.{ℕ, zero, suc, ◌+◌, Bool, true, false, cond, ◌&&◌, List, [], ◌∷◌, leb, ltb, length}
 use Rattle.meaning.specs.Following.{eq, app}
 use Rattle.job_field.specs.Items.{Head, line, differ, Item, noted, posed, Moment, start, Reading, refused, accepted, unsized}
 use Rattle.job_field.specs.Reading.{Kind, first, first-units, first-sheets, record-eq, record-app, sheeted-eq, sheeted-app, note-differ, question-ask, question-explain, question-broken, question-why, last, unknown, byte_at, length_at, behind_at, sheeted_in, kind_at, Field, bad, header, item, end, or_else, field_of_kind, field_standing, checked, onward}

@@ -1,5 +1,7 @@
 // Reading in the harness profile: kind 02 is refused by 4, and otherwise everything is as in the other reading. The first field of kind 02 that the fields
 // lead to is found by a walk of its own; that place and the other reading together are the reading of the profile. Document 02, No. 8. Rests on job_field.
+#![tactic(auto)]
+
 ghost use Rattle.std.specs.Prelude.{◌≡◌, suc, ◌≤◌, length};
 ghost use Rattle.job_field.specs.Answer.{said};
 ghost use Rattle.harness_read.specs.Profile.{marked, apply_from, ends_at, place_in};

@@ -1,6 +1,8 @@
 // The reason of a plain harness sheet: for two tags that are equal by the equations before a question, the fewest records that make them so, and of equally few
 // ones the smallest by first differing record number. Document 02, No. 8. Rests on moment, which tells whether two tags are equal at the question, on
 // harness_find, on reason_order, on table, and on reason, whose question and answer these are too.
+#![tactic(auto)]
+
 ghost use Rattle.std.specs.Prelude.{ℕ, ◌≤◌, ◌<◌};
 ghost use Rattle.reason.specs.Explaining.{Question};
 ghost use Rattle.harness_reason.specs.Explaining.{Plain, Wanted, Shortest, Explained};

@@ -20,7 +20,7 @@ use Rattle.call_look.proofs.Clearing.{cleared-after, returned-true, returned-fal
 use Rattle.call_rest.specs.Finish as fit
 use Rattle.call_rest.specs.Finish.{Fitted}
 use Rattle.call_rest.proofs.Finishing.{Roomy}
-use Rattle.harness_read.specs.Profile.{harness_reading, Equations}
+use Rattle.harness_read.specs.Profile.{Equations}
 use Rattle.harness_read.proofs.Bridge.{harness-accepted}
 use Rattle.harness_report.specs.Report.{HarnessSound}
 use Rattle.harness_answer.specs.Answering.{Responded}

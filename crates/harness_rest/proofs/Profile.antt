@@ -1,7 +1,7 @@
 -- What was seen of a job, seen in the harness profile: the reading of the profile is the other one and the first field of kind 02, taken together. Assumes nothing.
 use Prim.Native.Nat.{ℕ, suc, ◌≤◌, ◌<◌}
 use native.Mathlib.Omega.{arith}
-use mathlib.Core.Path.{◌≡◌, refl, sym, ◌∙◌, ap, subst}
+use mathlib.Core.Path.{◌≡◌, refl, sym, ◌∙◌}
 use mathlib.Core.Bool.{true, false}
 use mathlib.Core.List.{List}
 use lib.ListN.{length}
@@ -13,7 +13,7 @@ use Rattle.call_look.specs.Look as seen
 use Rattle.call_look.specs.Look.{Viewed, Looked, faulty}
 use Rattle.call_look.specs.Begun.{Begun}
 use Rattle.call_look.proofs.Ready.{looked-lent}
-use Rattle.harness_read.specs.Profile.{harness_reading, Place, none, some, apply_from, both, place_in}
+use Rattle.harness_read.specs.Profile.{harness_reading, none, some, apply_from, place_in}
 use Rattle.harness_read.proofs.Bridge.{harness-reading, harness-accepted}
 use Rattle.harness_rest.specs.Look as l
 use Rattle.harness_rest.specs.Look.{HarnessViewed, Profiled, HarnessLooked, HarnessBegun}

@@ -23,7 +23,7 @@ use Rattle.call_look.specs.declared.Sight.{Sight}
 use Rattle.call_look.specs.Clear.{Cleared, Returned}
 use Rattle.call_look.proofs.Clearing.{cleared-after, returned-true, returned-false}
 use Rattle.call_rest.specs.Weigh.{finding_of}
-use Rattle.harness_read.specs.Profile.{harness_reading, Equations}
+use Rattle.harness_read.specs.Profile.{Equations}
 use Rattle.harness_read.proofs.Bridge.{harness-accepted}
 use Rattle.harness_judge.specs.Judging as g
 use Rattle.harness_judge.specs.Judging.{Judged, Verdict}

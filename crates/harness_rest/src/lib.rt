@@ -1,5 +1,7 @@
 // The rest of a run and of a recheck of a plain harness sheet, once the record table has had its part: the job that was seen is seen again in the harness profile, which
 // refuses kind 02. Document 02, No. 8. Rests on call_look and call_rest (what is seen and answered), harness_read, harness_answer, all_close and harness_judge.
+#![tactic(auto)]
+
 ghost use Rattle.std.specs.Prelude.{◌≡◌, true};
 ghost use Rattle.call_look.specs.Begun.{Begun};
 ghost use Rattle.call_look.specs.Look.{Viewed, faulty};

@@ -1,5 +1,7 @@
 // What tagharness says of a plain harness sheet, and that it is true: the lines of its one sound report, or the line of its refusal. Document 01, "The program"; document 02,
 // No. 8. Rests on harness_own for the run and on text for the text.
+#![tactic(auto)]
+
 ghost use Rattle.harness_saying.specs.Says.{HarnessTrue};
 
 use harness_own::run_sheet;

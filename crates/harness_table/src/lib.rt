@@ -10,10 +10,12 @@
 // SAVED                         1,000  by tag             the last record of the best way to it
 //
 // When the search is over, the way back is written at the front of LIST, over the first of these.
+#![tactic(auto)]
+
 ghost use Rattle.std.specs.Prelude.{◌≡◌, ℕ, ◌+◌, ◌≤◌, ◌<◌, length, get_or, set};
 ghost use Rattle.meaning.specs.Limits.{most_records, most_tags, named_numbers};
 ghost use Rattle.table.specs.Places.{Large};
-ghost use Rattle.harness_table.specs.Levels.{LEVELS, LASTS, FOUND, link_at, start_at, lev_in, last_in, link_in, start_in, found_in};
+ghost use Rattle.harness_table.specs.Levels.{LEVELS, LASTS, FOUND as found_region, link_at, start_at, lev_in, last_in, link_in, start_in, found_in};
 
 use meaning::{RecordNo, Tag};
 
@@ -161,7 +163,7 @@ pub fn found(work: &[u16], i: usize) -> Tag
 
 pub fn put_found(work: &mut [u16], i: usize, x: Tag)
     requires { Large work.old × (i < most_tags) }
-    ensures { work.new ≡ set work.old (FOUND.at + i) x.0 }
+    ensures { work.new ≡ set work.old (found_region.at + i) x.0 }
 {
     let v = x.number();
     store(work, FOUND, i, v);

@@ -1,6 +1,6 @@
 -- A field that is known is found where it stands by its kind, its length and its body; there is one right field, and behind a reason its sheets stand or not.
 -- Assumes nothing.
-use Prim.Native.Nat.{ℕ, suc, ◌+◌, ◌*◌, ◌-◌, ◌≤◌, ◌<◌, min}
+use Prim.Native.Nat.{ℕ, suc, ◌+◌, ◌*◌, ◌≤◌}
 use native.Mathlib.Omega.{arith}
 use mathlib.Core.Path.{◌≡◌, refl, sym, ◌∙◌, ap, subst}
 use mathlib.Core.Logic.{◌≢◌, ◌↔◌}
@@ -10,7 +10,7 @@ use lib.ListN.{length, drop, length-append}
 use Rattle.meaning.specs.Following.{Rec, Follows, UpTo}
 use Rattle.meaning.specs.Reasons.{Above}
 use Rattle.meaning.specs.Limits.{most_tags}
-use Rattle.job_field.specs.Items.{Head, Matter, Moment, Question, records_of, pairs_of, explain, broken}
+use Rattle.job_field.specs.Items.{Head, Matter, Moment, Question, records_of, pairs_of, broken}
 use Rattle.job_field.specs.Reading.{head_in, items_in, matter_in}
 use Rattle.job_field.specs.Standing.{Job}
 use Rattle.table.specs.Map.{list_of, list_in, rec_at, records_in, Within}

@@ -1,6 +1,8 @@
 // Whether the right answer to an explain, and to a 06, stands at a place of a report of a plain harness sheet. Document 02, No. 8, "Its recheck uses this rule". The reason
 // is one, so that it is found again and its field compared byte by byte; in edition 2 its sheets are looked for behind it (No. 9). Rests on moment, pairs, answer_ask, judge_sheets,
 // judge_explain (what an explain needs), report, report_read, report_numbers and harness_reason.
+#![tactic(auto)]
+
 ghost use Rattle.std.specs.Prelude.{◌≡◌, true, ◌↔◌, [], ◌∷◌, ◌+◌, ◌*◌, ◌≤◌, ◌<◌, length};
 ghost use Rattle.meaning.specs.Limits.{most_records};
 ghost use Rattle.job_field.specs.Reading.{items_in};

@@ -1,6 +1,6 @@
 -- Reading refuses by the numbers 3 to 8, 11 to 13 and 17 and by no other: each field's tests have these numbers, and what follows the end has 8.
 -- Assumes nothing.
-use Prim.Native.Nat.{ℕ, zero, suc, ◌+◌, ◌≤◌, ◌<◌}
+use Prim.Native.Nat.{ℕ, zero, suc, ◌+◌, ◌≤◌}
 use native.Mathlib.Omega.{arith}
 use mathlib.Core.Path.{◌≡◌, refl}
 use mathlib.Core.Bool.{Bool, true, false, cond}
@@ -8,7 +8,7 @@ use mathlib.Core.List.{List, [], ◌∷◌}
 use lib.Dec.{eqb, ltb, leb}
 use lib.ListN.{length}
 use Rattle.meaning.specs.Following.{eq, app}
-use Rattle.job_field.specs.Items.{Head, unsized, Moment, start, after, line, differ, ask, explain, broken, why, noted, posed, Item, tags_of, Reading, refused, accepted}
+use Rattle.job_field.specs.Items.{Head, unsized, Moment, start, line, differ, ask, explain, broken, why, noted, posed, Item, Reading, refused, accepted}
 use Rattle.job_field.specs.Reading.{Kind, first, first-units, first-sheets, unknown, Field, bad, header, item, end, known, length_at, behind_at, length_of_body, body_at, or_else, field_of_kind, field_standing, kind_at, sheeted_in, byte_at, checked, counted, sized, filed, field_tags, tagged, with, behind, onward, read_from, reading}
 use Rattle.job_field.proofs.Reading.{body-later}
 

@@ -3,14 +3,14 @@
 -- Assumes nothing.
 use Prim.Native.Nat.{ℕ, zero, suc, ◌+◌, ◌≤◌, ◌<◌}
 use native.Mathlib.Omega.{arith}
-use mathlib.Core.Path.{◌≡◌, refl, sym, ◌∙◌, ap, subst}
+use mathlib.Core.Path.{◌≡◌, refl, sym, ap, subst}
 use mathlib.Core.Bool.{Bool, true, false, cond, ◌&&◌}
 use mathlib.Core.List.{List, [], ◌∷◌}
 use borrow.Author.Tests.{eqb-true, ltb-true, leb-true, lt-leb, ne_eqb}
 use lib.Dec.{eqb, ltb, leb}
 use lib.ListN.{length}
 use Rattle.meaning.specs.Limits.{most_tags}
-use Rattle.job_field.specs.Items.{Head, Moment, start, after, Item, Reading, refused, accepted}
+use Rattle.job_field.specs.Items.{Head, Moment, after, Item, Reading, refused, accepted}
 use Rattle.job_field.specs.Standing.{Below}
 use Rattle.job_field.specs.Reading.{Kind, record-eq, record-app, sheeted-eq, sheeted-app, note-differ, question-ask, question-explain, question-broken, question-why, last, Field, bad, header, item, end, known, length_of_body, body_at, kind_later, kind_by_edition, sheeted_in, kind_at, byte_at, length_at, behind_at, or_else, field_of_kind, field_standing, counted, size_right, sized, filed, field_tags, tagged, checked, with, behind, onward, read_from}
 

@@ -1,17 +1,17 @@
 -- An accepted job is met by the cursor item for item: reading went from field to field by the same definition.
 -- Induction over the fields that are read.
 -- Assumes nothing.
-use Prim.Native.Nat.{ℕ, zero, suc, ◌+◌, ◌-◌, ◌≤◌, ◌<◌}
+use Prim.Native.Nat.{ℕ, zero, suc, ◌+◌, ◌≤◌, ◌<◌}
 use native.Mathlib.Omega.{arith}
 use mathlib.Core.Path.{◌≡◌, refl, sym, ap, subst}
-use mathlib.Core.Bool.{Bool, true, false, cond, ◌&&◌}
+use mathlib.Core.Bool.{Bool, true, false, cond}
 use mathlib.Core.List.{List, [], ◌∷◌}
 use borrow.Author.Tests.{eqb-true, ltb-true, leb-true}
-use lib.Dec.{eqb, ltb, leb}
+use lib.Dec.{eqb, leb}
 use lib.ListN.{length}
 use Rattle.meaning.specs.Limits.{most_differs, most_questions, most_records}
-use Rattle.job_field.specs.Items.{Head, unsized, head_of, items_of, Moment, start, after, Item, noted, posed, stands_for, Reading, refused, accepted, records_of, pairs_of, questions_of}
-use Rattle.job_field.specs.Reading.{Field, bad, header, item, end, field_standing, sheeted_in, edition_of, byte_at, length_at, kind_first, body_at, behind_at, checked, counted, with, behind, onward, read_from, reading, head_in, items_in, filed, first, first-units, first-sheets, unknown}
+use Rattle.job_field.specs.Items.{Head, unsized, head_of, items_of, Moment, start, after, Item, noted, posed, Reading, refused, accepted, records_of, pairs_of, questions_of}
+use Rattle.job_field.specs.Reading.{Field, bad, header, item, end, field_standing, sheeted_in, edition_of, byte_at, length_at, kind_first, body_at, behind_at, checked, counted, with, behind, onward, read_from, reading, head_in, items_in, first, first-units, first-sheets, unknown}
 use Rattle.job_field.specs.Standing.{Few, Stands, ends, next, Job, Met}
 use Rattle.job_field.proofs.Items.{after-records, after-differs, after-questions}
 use Rattle.job_field.proofs.Reading.{Passed, checked-passed, field-whole, field-passed, header-first, and-true, size-right}

@@ -12,7 +12,7 @@ use lib.Dec.{eqb, ltb, leb}
 use lib.ListN.{length}
 use Rattle.meaning.specs.Following.{Rec}
 use Rattle.meaning.specs.Limits.{most_sheet}
-use Rattle.job_field.specs.Items.{Head, unsized, Moment, start, after, Item, noted, posed, line, differ, tags_of, tags_of_record, Reading, refused, accepted}
+use Rattle.job_field.specs.Items.{Head, unsized, Moment, start, after, Item, noted, posed, line, differ, tags_of, tags_of_record, refused, accepted}
 use Rattle.job_field.specs.Reading.{Kind, first, first-units, first-sheets, record-eq, record-app, sheeted-eq, sheeted-app, note-differ, question-ask, question-explain, question-broken, question-why, last, unknown, Field, bad, header, item, end, number_at, byte_at, length_at, length_of_body, kind_later, kind_by_edition, body_at, kind_at, sheeted_in, behind_at, or_else, field_standing, counted, sized, filed, field_tags, tagged, checked, offset_of, behind, onward, read_from, reading}
 use Rattle.job_field.specs.Standing.{Below}
 use Rattle.job_field.specs.Wrong.{Wrong, Unfiled}

@@ -1,6 +1,6 @@
 -- An accepted job as the cursor meets it: from a place on stand exactly these items, then the end field, and there the job ends.
 -- Assumes nothing.
-use Rattle.std.specs.Prelude.{ℕ, ◌+◌, ◌≤◌, ◌<◌, ◌≡◌, true, List, [], ◌∷◌, length}
+use Rattle.std.specs.Prelude.{ℕ, ◌≤◌, ◌<◌, ◌≡◌, true, List, [], ◌∷◌, length}
 use Rattle.meaning.specs.Limits.{most_differs, most_questions, most_records, most_tags}
 use Rattle.job_field.specs.Items.{Head, Item, tags_of, Moment, start, accepted, records_of, pairs_of, questions_of, needed_room}
 use Rattle.job_field.specs.Reading.{field_standing, header, item, end, filed, behind_at, reading}

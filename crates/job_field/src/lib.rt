@@ -1,6 +1,8 @@
 // The fields of a job: what its bytes say at a place. Document 01, "The job and the report" and "What is lent, and each
 // refusal"; document 02, No. 1 to 3, 7 and 9. The field reader below is the only place on this side that makes a tag out of bytes; what limits a field is
 // tested in job_limits. Rests on meaning.
+#![tactic(auto)]
+
 ghost use Rattle.std.specs.Prelude.{◌≡◌, ◌+◌, ◌≤◌, length};
 ghost use Rattle.job_field.specs.Reading.{byte_at, number_at, kind_first, kind_at, kind_later, kind_sheeted, kind_by_edition, sheeted_in, known, length_of_body, says, body_at, length_at, behind_at, field_of_kind, field_standing, units_stated, offset_of};
 ghost use Rattle.job_field.specs.Answer.{number_of, kind_of, note_said, said};
@@ -9,7 +11,7 @@ ghost use Rattle.job_field.specs.Items.{stands_for, pairs_noted, sheets_in};
 use meaning::Tag;
 
 // Why a job is refused, in the order of the documents' numbers, 3 to 8, 11 to 13 and 17.
-#[derive(Drop)]
+#[derive(Clone, Copy)]
 pub enum Fault {
     // The job ends inside a field or before the end field.
     Cut,
@@ -71,7 +73,7 @@ fn offset_of(fault: Fault, stated: usize) -> usize
 }
 
 // The kinds of a job's fields.
-#[derive(Drop)]
+#[derive(Clone, Copy)]
 pub enum Kind {
     First,
     Units,
@@ -91,7 +93,7 @@ pub enum Kind {
 }
 
 // A note of the job, which is `Note` in specs/Items: a record with its sheet, or two tags that must differ.
-#[derive(Drop)]
+#[derive(Clone, Copy)]
 pub enum Line {
     Equation(Tag, Tag, u16),
     Application(Tag, Tag, Tag, u16),
@@ -99,7 +101,7 @@ pub enum Line {
 }
 
 // A question of the job, which is `Question` in specs/Items.
-#[derive(Drop)]
+#[derive(Clone, Copy)]
 pub enum Query {
     Ask(Tag, Tag),
     Explain(Tag, Tag),
@@ -108,7 +110,7 @@ pub enum Query {
 }
 
 // What stands at a place of a job. A new kind is a new `Line` or `Query`: here the cases stay these five.
-#[derive(Drop)]
+#[derive(Clone, Copy)]
 pub enum Field {
     Bad(Fault),
     // N and U: tags from U up are units; and whether records have sheets.
@@ -376,7 +378,7 @@ pub fn place_of(job: &[u8], at: usize, fault: Fault) -> usize
 }
 
 // The thin reader: the job's slice and a position in it, over the cursor.
-#[derive(Drop)]
+#[derive(Clone, Copy)]
 pub struct Reader<'a> {
     pub job: &'a [u8],
     pub at: usize,

@@ -1,6 +1,8 @@
 // The limits of a field: at most 4,000 records, 500 pairs that must differ and 1,000 questions (7), N from 1 to 1,000 with U up to it (6), tags below N (11, 12, 13) and sheets up to 9,999 (17).
 // Document 01, "What is lent, and each refusal", the second half of its order for a field, and document 02, No. 1 to 3 and 9. Here the tags of a job are compared with N.
 // Rests on meaning and job_field.
+#![tactic(auto)]
+
 ghost use Rattle.std.specs.Prelude.{◌≡◌, ◌+◌, length, ◌&&◌, ltb, leb};
 ghost use Rattle.job_field.specs.Reading.{or_else, counted, sized, note_is_filed, filed, field_tags, tagged, checked};
 ghost use Rattle.meaning.specs.Limits.{most_tags};
@@ -25,7 +27,7 @@ const MOST_TAGS: u16 = meaning::MOST_TAGS as u16;
 const MOST_SHEET: u16 = meaning::MOST_SHEET as u16;
 
 // What the first field said, N and U, both 0 before it, and whether the job is of edition 2, whose records have sheets.
-#[derive(Drop)]
+#[derive(Clone, Copy)]
 pub struct Top {
     pub size: u16,
     pub units: u16,
@@ -33,7 +35,7 @@ pub struct Top {
 }
 
 // What stands before a field: so many records, pairs that must differ, and questions.
-#[derive(Drop)]
+#[derive(Clone, Copy)]
 pub struct Counts {
     pub records: u16,
     pub differs: u16,
@@ -106,7 +108,7 @@ fn is_below(tag: Tag, size: u16) -> bool
 }
 
 // The tags of a field, in the order of the job's table.
-#[derive(Drop)]
+#[derive(Clone, Copy)]
 pub enum Tags {
     None,
     Two(Tag, Tag),

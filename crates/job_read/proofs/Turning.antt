@@ -7,10 +7,10 @@ use mathlib.Core.Bool.{Bool, true, false, cond}
 use mathlib.Core.List.{List}
 use lib.ListN.{length}
 use Rattle.meaning.specs.Limits.{most_tags}
-use Rattle.job_field.specs.Items.{Head, Note, Moment, start, after, Question, ask, explain, broken, why, noted, posed, sheet_room, room_for, Reading, refused, accepted, records_of, questions_of, needed_room}
+use Rattle.job_field.specs.Items.{Head, Note, Moment, start, after, Question, ask, explain, broken, why, Item, noted, posed, sheet_room, room_for, Reading, refused, accepted, records_of, questions_of, needed_room}
 use Rattle.job_field.specs.Reading.{Field, bad, header, item, end, offset_of, length_at, behind_at, field_standing, checked, with, behind, onward, read_from, reading}
 use Rattle.job_field.proofs.Items.{after-records, after-questions}
-use Rattle.job_field.proofs.Reading.{Sound, Passed, checked-passed, field-whole, Sized, read-sized, size-right}
+use Rattle.job_field.proofs.Reading.{Sound, checked-passed, field-whole, Sized, read-sized, size-right}
 use Rattle.job_field.specs.Standing.{Few}
 use Rattle.job_field.proofs.Standing.{start-few, after-few}
 use Rattle.job_limits.specs.Counts.{head_of, moment_of}
@@ -33,11 +33,15 @@ tally-note : (b : Moment) (room : ℕ) (n : Note) (X : Reading) → tally b room
 tally-note b room n (refused m p) = refl
 tally-note b room n (accepted H is) = rw (← after-records b (noted n) is)
 
+posed-tally : (H : Head) (b : Moment) (room : ℕ) (q : Question) (is : List Item) → tally b room (with (posed q) (accepted H is)) ≡ tally (after (posed q) b) (room + room_for H b q) (accepted H is)
+posed-tally H b room q is =
+    let e : room + (room_for H b q + needed_room H (after (posed q) b) is) ≡ room + room_for H b q + needed_room H (after (posed q) b) is = omega arith in
+    rw (← after-questions b (posed q) is, e)
+
 tally-question : (H : Head) (b : Moment) (room : ℕ) (q : Question) (X : Reading) → Sized H X → tally b room (with (posed q) X) ≡ tally (after (posed q) b) (room + room_for H b q) X
 tally-question H b room q (refused n p) h = refl
 tally-question H b room q (accepted M is) h =
-    let e : room + (room_for H b q + needed_room H (after (posed q) b) is) ≡ room + room_for H b q + needed_room H (after (posed q) b) is = omega arith in
-    rw (h, ← after-questions b (posed q) is, e)
+    subst (λ (N : Head). tally b room (with (posed q) (accepted N is)) ≡ tally (after (posed q) b) (room + room_for H b q) (accepted N is)) (sym h) (posed-tally H b room q is)
 
 -- No question needs more room than 8,000 bytes.
 sheet-most : (H : Head) (b : Moment) → sheet_room H b ≤ 3 + 2 * min b.records (2 * (H.size - 1))

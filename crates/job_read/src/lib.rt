@@ -1,5 +1,7 @@
 // A whole job read: it is accepted, or refused by number and place. Document 01, "What is lent, and each refusal", numbers 3 to 8, and document 02, No. 2 and 9,
 // numbers 11 to 13 and 17. Its fields come from the reader in job_field, and job_limits tests each. Rests on job_field and job_limits.
+#![tactic(auto)]
+
 ghost use Rattle.std.specs.Prelude.{◌≡◌, ◌+◌, ◌*◌, ◌-◌, ◌≤◌, ◌<◌, min, length, cond};
 ghost use Rattle.meaning.specs.Limits.{most_tags};
 ghost use Rattle.job_field.specs.Items.{room_for};
@@ -18,7 +20,7 @@ const ROOM_OF_TOTALS: usize = 7;
 const ROOM_OF_ASK: usize = 7;
 
 // What reading a job comes to.
-#[derive(Drop)]
+#[derive(Clone, Copy)]
 pub enum Answer {
     Refused {
         fault: Fault,
@@ -35,7 +37,7 @@ pub enum Answer {
 }
 
 // How far reading has come: the place of the next field, what the first one said, and what has been counted.
-#[derive(Drop)]
+#[derive(Clone, Copy)]
 pub struct Seen {
     pub at: usize,
     pub top: Top,
@@ -44,7 +46,7 @@ pub struct Seen {
 }
 
 // What one more field leads to.
-#[derive(Drop)]
+#[derive(Clone, Copy)]
 pub enum Turn {
     On(Seen),
     Done(Answer),

@@ -3,12 +3,14 @@
 // behind 500 pairs that must differ, and behind the longest job. A line that is written is a name, the number and the place that `job_read::read_job` answered; where those are not the expected ones,
 // they are written behind. Of an accepted job a second line tells N, the records, the questions and the needed room. Every truncation, every changed byte and
 // jobs in disorder are the comparison's (compare/framed). Rests on job_field, job_read and console; no contract says what is written, the stored output does.
+#![tactic(auto)]
+
 ghost use Rattle.std.specs.Prelude.{◌≡◌};
 
-use console::{Got, read_input};
+use console::{Got, read_input, write_output};
 
 // What document 01 gives an answer: 0 at 0 where the job is accepted.
-#[derive(Drop)]
+#[derive(Clone, Copy)]
 struct Verdict {
     number: u64,
     place: u64,
@@ -52,29 +54,34 @@ fn answered(bytes: &[u8]) -> Verdict {
     }
 }
 
-fn pair(a: u64, b: u64) {
-    io::write_all(1, b" ");
-    io::print_decimal(1, a);
-    io::write_all(1, b" ");
-    io::print_decimal(1, b);
+// A decimal number. Like the other writes, one that fails leaves its bytes out.
+fn say_number(rt: &HostRuntime, n: u64) {
+    let _ = print!(rt; "{n}");
 }
 
-fn line(name: &[u8], v: Verdict, number: u64, place: u64) {
-    io::write_all(1, name);
-    pair(v.number, v.place);
+fn pair(rt: &HostRuntime, a: u64, b: u64) {
+    write_output(rt, b" ");
+    say_number(rt, a);
+    write_output(rt, b" ");
+    say_number(rt, b);
+}
+
+fn line(rt: &HostRuntime, name: &[u8], v: Verdict, number: u64, place: u64) {
+    write_output(rt, name);
+    pair(rt, v.number, v.place);
     if v.number != number || v.place != place {
-        io::write_all(1, b" expected");
-        pair(number, place);
+        write_output(rt, b" expected");
+        pair(rt, number, place);
     }
-    io::write_all(1, b"\n");
+    write_output(rt, b"\n");
 }
 
 // What an accepted job is known by: N, the records, the questions, the needed room.
-fn known(name: &[u8], bytes: &[u8]) {
-    io::write_all(1, name);
+fn known(rt: &HostRuntime, name: &[u8], bytes: &[u8]) {
+    write_output(rt, name);
     match job_read::read_job(bytes) {
         job_read::Answer::Refused { fault, place } => {
-            pair(byte(job_field::number_of(fault)), size(place));
+            pair(rt, byte(job_field::number_of(fault)), size(place));
         }
         job_read::Answer::Accepted {
             size: tags,
@@ -84,18 +91,18 @@ fn known(name: &[u8], bytes: &[u8]) {
             questions,
             room,
         } => {
-            pair(word(tags), word(records));
-            pair(word(questions), size(room));
+            pair(rt, word(tags), word(records));
+            pair(rt, word(questions), size(room));
         }
     }
-    io::write_all(1, b"\n");
+    write_output(rt, b"\n");
 }
 
-fn case(name: &[u8], bytes: &[u8], number: u64, place: u64) {
+fn case(rt: &HostRuntime, name: &[u8], bytes: &[u8], number: u64, place: u64) {
     let v = answered(bytes);
-    line(name, v, number, place);
+    line(rt, name, v, number, place);
     if v.number == 0 {
-        known(name, bytes);
+        known(rt, name, bytes);
     }
 }
 
@@ -115,9 +122,9 @@ fn put(room: &mut [u8], at: usize, field: &[u8]) -> usize {
     at + field.len()
 }
 
-fn front(name: &[u8], room: &[u8], n: usize, number: u64, place: u64) {
+fn front(rt: &HostRuntime, name: &[u8], room: &[u8], n: usize, number: u64, place: u64) {
     if n <= room.len() {
-        case(name, &room[..n], number, place);
+        case(rt, name, &room[..n], number, place);
     }
 }
 
@@ -147,7 +154,7 @@ fn byte_of(high: u8, low: u8) -> u8 {
 }
 
 // A number of the text, and the place behind the byte that ends it.
-#[derive(Drop)]
+#[derive(Clone, Copy)]
 struct Figure {
     value: u64,
     next: usize,
@@ -168,7 +175,7 @@ fn parsed(text: &[u8], from: usize, mark: u8) -> Figure {
 }
 
 // Where the bytes of a line end in the room, and the place behind the line.
-#[derive(Drop)]
+#[derive(Clone, Copy)]
 struct Laid {
     end: usize,
     next: usize,
@@ -202,7 +209,7 @@ fn lay(text: &[u8], from: usize, room: &mut [u8], start: usize) -> Laid {
 }
 
 // A line of the text: a name, the number and the place that are expected, and the bytes that stand in the room from a place on, to the job's end.
-fn row(text: &[u8], from: usize, room: &mut [u8], start: usize) -> usize {
+fn row(rt: &HostRuntime, text: &[u8], from: usize, room: &mut [u8], start: usize) -> usize {
     let named = behind(text, from, b' ');
     let number = parsed(text, named, b' ');
     let place = parsed(text, number.next, b':');
@@ -210,6 +217,7 @@ fn row(text: &[u8], from: usize, room: &mut [u8], start: usize) -> usize {
     if named <= text.len() {
         if from < named {
             front(
+                rt,
                 &text[from..named - 1],
                 room,
                 laid.end,
@@ -222,13 +230,13 @@ fn row(text: &[u8], from: usize, room: &mut [u8], start: usize) -> usize {
 }
 
 // The lines of the text from a place on, to the next empty one; the place behind that.
-fn rows(text: &[u8], from: usize, room: &mut [u8], start: usize) -> usize {
+fn rows(rt: &HostRuntime, text: &[u8], from: usize, room: &mut [u8], start: usize) -> usize {
     let mut at = from;
     while at < text.len() {
         if text[at] == b'\n' {
             return at + 1;
         }
-        let next = row(text, at, room, start);
+        let next = row(rt, text, at, room, start);
         if next <= at {
             return at;
         }
@@ -289,53 +297,53 @@ fn longest(room: &mut [u8]) -> usize {
     repeat(room, half, b"\x04\x00\x04\x00\x00\x03\xE7", 1000)
 }
 
-fn behind_records(text: &[u8], from: usize, room: &mut [u8]) -> usize {
+fn behind_records(rt: &HostRuntime, text: &[u8], from: usize, room: &mut [u8]) -> usize {
     let full = records(room);
-    rows(text, from, room, full)
+    rows(rt, text, from, room, full)
 }
 
-fn behind_questions(text: &[u8], from: usize, room: &mut [u8]) -> usize {
+fn behind_questions(rt: &HostRuntime, text: &[u8], from: usize, room: &mut [u8]) -> usize {
     let full = questions(room);
-    rows(text, from, room, full)
+    rows(rt, text, from, room, full)
 }
 
-fn behind_differs(text: &[u8], from: usize, room: &mut [u8]) -> usize {
+fn behind_differs(rt: &HostRuntime, text: &[u8], from: usize, room: &mut [u8]) -> usize {
     let full = differs(room);
-    rows(text, from, room, full)
+    rows(rt, text, from, room, full)
 }
 
-fn behind_all(text: &[u8], from: usize, room: &mut [u8]) -> usize {
+fn behind_all(rt: &HostRuntime, text: &[u8], from: usize, room: &mut [u8]) -> usize {
     let full = longest(room);
-    rows(text, from, room, full)
+    rows(rt, text, from, room, full)
 }
 
-fn all(text: &[u8], room: &mut [u8]) {
-    let second = rows(text, 0, room, 0);
-    let third = behind_records(text, second, room);
-    let fourth = behind_questions(text, third, room);
-    let last = behind_differs(text, fourth, room);
-    behind_all(text, last, room);
+fn all(rt: &HostRuntime, text: &[u8], room: &mut [u8]) {
+    let second = rows(rt, text, 0, room, 0);
+    let third = behind_records(rt, text, second, room);
+    let fourth = behind_questions(rt, text, third, room);
+    let last = behind_differs(rt, text, fourth, room);
+    behind_all(rt, text, last, room);
 }
 
 // What standard input holds comes to the front of the text.
-fn begun(text: &mut [u8], room: &mut [u8]) {
-    let got = read_input(text);
+fn begun(rt: &HostRuntime, text: &mut [u8], room: &mut [u8]) {
+    let got = read_input(rt, text);
     match got {
         Got::Bytes(n) => {
             if n <= text.len() {
-                all(&text[..n], room);
+                all(rt, &text[..n], room);
             }
         }
         Got::Broken => {
-            io::write_all(1, b"no vectors\n");
+            write_output(rt, b"no vectors\n");
         }
     }
 }
 
-fn main() {
+fn main(rt: HostRuntime) {
     let mut text_space = [0u8; 12288];
     let text: &mut [u8] = &mut text_space;
     let mut room_space = [0u8; 50000];
     let room: &mut [u8] = &mut room_space;
-    begun(text, room);
+    begun(&rt, text, room);
 }

@@ -1,6 +1,8 @@
 // The judge of a report against its job, over the table that the closure left. Document 01, "What is lent, and each refusal": the
 // report fields are compared in order, and the judge stops at the first that is at fault. Document 02, No. 1 and 9. Rests on job_field, report_read, moment, pairs,
 // answer_ask, judge_explain and judge_broken.
+#![tactic(auto)]
+
 ghost use Rattle.std.specs.Prelude.{◌≡◌, ◌≤◌, ◌<◌, length};
 ghost use Rattle.judge.specs.Judging.{Judgeable, Judged};
 ghost use Rattle.job_field.specs.Answer.{question_said};
@@ -19,14 +21,14 @@ use moment::{Closed as Left, Question};
 use pairs::mark_note;
 
 // What is judged of a report: it is sound, or the first byte of the first field at fault.
-#[derive(Drop)]
+#[derive(Clone, Copy)]
 pub enum Judgement {
     Sound,
     Fault(usize),
 }
 
 // What is judged by beside the table: N and U, whether records have sheets, the numbers of all records and of all joins, and of idle records.
-#[derive(Drop)]
+#[derive(Clone, Copy)]
 pub struct Closed {
     pub size: usize,
     pub unit: usize,
@@ -37,7 +39,7 @@ pub struct Closed {
 }
 
 // How far the judge has come: the place in the job, the place in the report, and the records and the pairs that must differ before both.
-#[derive(Drop)]
+#[derive(Clone, Copy)]
 pub struct Stand {
     pub at: usize,
     pub place: usize,
@@ -46,7 +48,7 @@ pub struct Stand {
 }
 
 // What one more item leads to.
-#[derive(Drop)]
+#[derive(Clone, Copy)]
 pub enum Turn {
     On(Stand),
     Done(Judgement),

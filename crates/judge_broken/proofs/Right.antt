@@ -1,20 +1,19 @@
 -- A right field for a 06 is found whole where it stands, so that its kind, the number of the pair and the reason behind it decide whether one stands there.
 -- Assumes nothing.
-use Prim.Native.Nat.{ℕ, suc, ◌+◌, ◌*◌, ◌-◌, ◌≤◌, ◌<◌}
+use Prim.Native.Nat.{ℕ, suc, ◌+◌, ◌-◌, ◌≤◌, ◌<◌}
 use native.Mathlib.Omega.{arith}
 use mathlib.Core.Path.{◌≡◌, refl, sym, ◌∙◌, ap, subst}
 use mathlib.Core.Logic.{◌≢◌}
-use mathlib.Core.Bool.{Bool, true, false}
-use mathlib.Core.List.{List, [], ◌∷◌, ◌++◌}
+use mathlib.Core.Bool.{Bool, false}
+use mathlib.Core.List.{List, [], ◌∷◌}
 use lib.ListN.{length, drop}
-use Rattle.meaning.specs.Following.{Rec}
 use Rattle.meaning.specs.Reasons.{Reason}
 use Rattle.job_field.specs.Items.{Head, Moment, records_of, pairs_of, broken}
-use Rattle.job_field.specs.Reading.{head_in, items_in, matter_in}
+use Rattle.job_field.specs.Reading.{items_in, matter_in}
 use Rattle.table.specs.Map.{rec_at, records_in, since_of, Within}
 use Rattle.table.specs.Places.{scratch}
 use Rattle.table.proofs.Frame.{within-refl, within-trans, length-gather}
-use Rattle.report.specs.Broken.{pair_no, Earliest, Unbroken}
+use Rattle.report.specs.Broken.{Earliest, Unbroken}
 use Rattle.report.specs.Report as told
 use Rattle.report.specs.Report.{two, numbers, field}
 use Rattle.report.specs.Fault.{Stands}

@@ -1,5 +1,7 @@
 // Whether the right answer to a question 06 stands at a place of a report, over the table that the closure left, with the sheets of its reason in edition 2.
 // Document 02, No. 1 and 9. Rests on pairs, moment, answer_ask, judge_sheets, report, report_read and judge_explain.
+#![tactic(auto)]
+
 ghost use Rattle.std.specs.Prelude.{◌≡◌, ◌+◌, ◌≤◌, ◌<◌, length};
 ghost use Rattle.pairs.specs.Breaking.{Breaking};
 ghost use Rattle.moment.specs.Posed.{head_of, Deciding};

@@ -17,10 +17,9 @@ use Rattle.meaning.proofs.Reference.{Small}
 use Rattle.meaning.proofs.Trim.{member-le-last, le-last}
 use Rattle.meaning.proofs.Close.{more_of}
 use Rattle.job_field.specs.Items.{Head, Moment, explain, records_of}
-use Rattle.job_field.specs.Reading.{head_in, items_in, matter_in}
-use Rattle.table.specs.Map.{when_of, rec_at, records_in, list_of, list_in, Within}
+use Rattle.job_field.specs.Reading.{items_in, matter_in}
+use Rattle.table.specs.Map.{rec_at, records_in, list_of, list_in, Within}
 use Rattle.table.proofs.Frame.{within-refl, within-trans, within_wider, length-gather}
-use Rattle.table.specs.Past.{Past}
 use Rattle.moment.proofs.Kept.{kept-records, kept-loaded}
 use Rattle.reason.proofs.Whole.{small-records}
 use Rattle.report.specs.Report as told

@@ -1,6 +1,8 @@
 // Whether the right answer to an explain stands at a place of a report, over the table that the closure left, with the sheets of its reason in edition 2. Document
 // 01, "Reasons" and "The job and the report"; document 02, No. 9. Rests on moment, pairs, answer_ask, judge_sheets, report, report_read, report_numbers, reason,
 // reason_order and reason_test.
+#![tactic(auto)]
+
 ghost use Rattle.std.specs.Prelude.{◌+◌, ◌≤◌, length};
 ghost use Rattle.moment.specs.Posed.{Posed, Deciding};
 ghost use Rattle.judge_explain.specs.Right.{Assuring, Grounded, Explaining, Explained, Reasoned, Known};

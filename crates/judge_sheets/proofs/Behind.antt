@@ -1,11 +1,11 @@
 -- The numbers of a reason are read off the report, and what stands behind them is their sheets or is not.
 -- Assumes nothing.
-use Prim.Native.Nat.{ℕ, ◌+◌, ◌*◌, ◌-◌, ◌/◌, ◌≤◌, ◌<◌}
+use Prim.Native.Nat.{ℕ, ◌+◌, ◌*◌, ◌-◌, ◌/◌, ◌≤◌}
 use native.Mathlib.Omega.{arith}
-use mathlib.Core.Path.{◌≡◌, refl, sym, ◌∙◌, ap, subst}
-use mathlib.Core.Bool.{Bool, true, false}
-use mathlib.Core.List.{List, [], ◌++◌, Memᴰ}
-use lib.ListN.{length, drop}
+use mathlib.Core.Path.{◌≡◌, refl, sym, ◌∙◌, subst}
+use mathlib.Core.Bool.{true, false}
+use mathlib.Core.List.{List, Memᴰ}
+use lib.ListN.{length}
 use Rattle.meaning.specs.Reasons.{Above}
 use Rattle.job_field.specs.Items.{sheets_of, records_of}
 use Rattle.job_field.specs.Reading.{head_in, items_in, matter_in}
@@ -13,8 +13,7 @@ use Rattle.table.specs.Map.{list_of, list_in, Within}
 use Rattle.table.specs.Places.{scratch}
 use Rattle.table.proofs.Frame.{within-refl, within-trans, within_wider, length-gather}
 use Rattle.report.specs.Sheets.{Sheets}
-use Rattle.report.specs.Report.{numbers, field, Filed, unfiled, filed}
-use Rattle.report.specs.Fault.{Stands}
+use Rattle.report.specs.Report.{numbers, Filed, unfiled, filed}
 use Rattle.report.proofs.Bytes.{length-numbers, numbers-one}
 use Rattle.report_read.specs.Read.{Holds}
 use Rattle.report_read.proofs.Read.{holds-one, holds-none}

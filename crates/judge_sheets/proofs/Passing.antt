@@ -1,10 +1,10 @@
 -- A place that is right by a measure of one field is passed by it where the question has no reason; and a reason with what stands behind it is an answer, or goes
 -- astray.
 -- Assumes nothing.
-use Prim.Native.Nat.{ℕ, ◌+◌, ◌*◌}
+use Prim.Native.Nat.{ℕ, ◌+◌}
 use native.Mathlib.Omega.{arith}
-use mathlib.Core.Path.{◌≡◌, refl, sym, ◌∙◌, subst}
-use mathlib.Core.List.{List, ◌++◌}
+use mathlib.Core.Path.{◌≡◌, sym, ◌∙◌, subst}
+use mathlib.Core.List.{List}
 use lib.ListN.{length, drop, length-append}
 use Rattle.job_field.specs.Items.{Matter, Moment, Question}
 use Rattle.job_field.specs.Reading.{matter_in}
@@ -13,7 +13,6 @@ use Rattle.report.specs.Fault.{Stands, stands}
 use Rattle.report_read.specs.Read.{Holds}
 use Rattle.report_read.proofs.Read.{holds-both}
 use Rattle.answer_ask.specs.declared.Passed.{Passed}
-use Rattle.answer_ask.specs.declared.Passed.TheVariants.{To, Wrong}
 use Rattle.answer_ask.specs.Right as right
 use Rattle.judge_sheets.specs.Passing.{PassedAt, to, astray, wrong}
 use Rattle.judge_sheets.specs.Behind.{Filing, stood, missing}

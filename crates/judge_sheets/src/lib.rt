@@ -1,5 +1,7 @@
 // Whether the sheets of a reason stand behind it in a report, in edition 2 alone. Document 02, No. 9. Rests on table, job_field, report, report_read,
 // report_numbers, answer_ask and sheets_field.
+#![tactic(auto)]
+
 ghost use Rattle.std.specs.Prelude.{◌≡◌, true, ◌+◌};
 ghost use Rattle.job_field.specs.Reading.{head_in};
 ghost use Rattle.judge_sheets.specs.Behind.{Behind, Sheeted, Reasoning, Turned};

@@ -1,5 +1,5 @@
 -- Labels and seats are written behind the links, so the links and the leaders by them stay; and the seat of a tag's label is its leader. Assumes nothing.
-use Prim.Native.Nat.{ℕ, suc, ◌+◌, ◌-◌, ◌≤◌, ◌<◌}
+use Prim.Native.Nat.{ℕ, suc, ◌+◌, ◌≤◌, ◌<◌}
 use native.Mathlib.Omega.{arith}
 use native.Mathlib.Decide.{ℕ_discrete}
 use mathlib.Core.Path.{◌≡◌, refl, sym, ◌∙◌, ap}
@@ -37,8 +37,8 @@ module _ {w w' : List ℕ} (f : Within seating_part w w') where
   pub leader-kept : (a x : ℕ) → leader_at w' a x ≡ leader_at w a x
   leader-kept a x = rw (kept-parents wider, kept_ages wider)
 
-  pub labelled-here : {n a : ℕ} → Labelled w w' n a → Labelled w' w' n a
-  labelled-here {n} {a} h x l = rw (leader-kept a x) (h x l)
+  pub labelled-here : (n a : ℕ) → Labelled w w' n a → Labelled w' w' n a
+  labelled-here n a h x l = rw (leader-kept a x) (h x l)
 
 pub scan-start : (w : List ℕ) (a : ℕ) → Scanned w w 0 a
 scan-start w a = record { frame = within-refl w; labelled = λ x l. absurd (omega arith); own = λ x l. absurd (omega arith) }

@@ -1,5 +1,7 @@
 // Who leads a class at a question: its smallest unit, or its smallest tag where it has no unit. Document 02, No. 3. The links lead every tag to the smallest of its
 // class; every tag is labelled by that, and the first unit with a label takes the label's seat. Rests on table and moment.
+#![tactic(auto)]
+
 ghost use Rattle.std.specs.Prelude.{◌≡◌, ℕ, ◌≤◌, ◌<◌};
 ghost use Rattle.meaning.specs.Limits.{most_tags};
 ghost use Rattle.table.specs.Map.{label_of};
@@ -70,7 +72,7 @@ pub fn leader_of(work: &[u16], x: Tag) -> Tag
 }
 
 // Two leaders.
-#[derive(Drop)]
+#[derive(Clone, Copy)]
 pub struct Pair {
     pub one: Tag,
     pub other: Tag,

@@ -1,5 +1,7 @@
 // Adding places to those that are in: the applications that use a class whose label goes wait, and each is looked up among the uses of the lighter of
 // its two argument classes. Document 01, "Reasons". Rests on list_rings, on table_labels and on table.
+#![tactic(auto)]
+
 ghost use Rattle.std.specs.Prelude.{◌≡◌, ◌≢◌, ◌↔◌, Bool, true, suc, ◌-◌, ◌≤◌, ◌<◌};
 ghost use Rattle.meaning.specs.Limits.{most_tags};
 ghost use Rattle.meaning.specs.Following.{Follows};
@@ -117,7 +119,7 @@ fn seek_class(work: &[u16], second: bool, x: Tag, a: Tag, c: Tag) -> usize
 }
 
 // What is closed: the first n places of the list, of records 1 to `len` that the table holds of `size` tags.
-#[derive(Drop)]
+#[derive(Clone, Copy)]
 pub struct Task {
     pub size: usize,
     pub len: usize,
@@ -125,7 +127,7 @@ pub struct Task {
 }
 
 // Where the lists of those that wait begin, and how many joins were made.
-#[derive(Drop)]
+#[derive(Clone, Copy)]
 pub struct Pace {
     pub first: usize,
     pub last: usize,

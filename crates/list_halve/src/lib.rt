@@ -1,5 +1,7 @@
 // Taking out the spare records by halves: with the one half in, the other is halved, and then the other way round; where the two tags are equal by what
 // is in, the rest goes. What came in goes out again, and the labels are as they were. Document 01, "Reasons". Rests on list_add and list_rings.
+#![tactic(auto)]
+
 ghost use Rattle.std.specs.Prelude.{◌≡◌, ◌+◌, ◌≤◌, ◌<◌, set};
 ghost use Rattle.meaning.specs.Limits.{named_numbers};
 ghost use Rattle.table.specs.Places.{Large, QUEUE, front_size};
@@ -12,7 +14,7 @@ use list_add::Task;
 use meaning::Tag;
 
 // What is tried: whether the tags s and t are equal by fewer than the n records of the list, of those 1 to `len` that the table holds of `size` tags.
-#[derive(Drop)]
+#[derive(Clone, Copy)]
 pub struct Trial {
     pub size: usize,
     pub len: usize,

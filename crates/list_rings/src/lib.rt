@@ -1,5 +1,7 @@
 // Classes of tags, joined and parted again: flat labels, the tags of a class in a ring, a trail of the labels that went. Document 01, "Reasons". Rests on
 // list_ways, for what joins of rings mean, and on table.
+#![tactic(auto)]
+
 ghost use Rattle.std.specs.Prelude.{suc, ◌≤◌, ◌<◌};
 ghost use Rattle.meaning.specs.Limits.{most_tags};
 ghost use Rattle.table.specs.Map.{label_of, Within};

@@ -174,7 +174,7 @@ classes-more {N} {f} {m} {x} {y} a c = record {
         still (yes q) = absurd (k (sym e ∙ hit v q))
         still (no q) = sym (miss v q) ∙ e
 
-pub grown-classes : {N k k' : ℕ} {tr f m f' m' : ℕ → ℕ} → Classes N f m → Grown N tr k f m k' f' m' → Classes N f' m'
+pub grown-classes : {N k : ℕ} {tr f m : ℕ → ℕ} {k' : ℕ} {f' m' : ℕ → ℕ} → Classes N f m → Grown N tr k f m k' f' m' → Classes N f' m'
 grown-classes c (none p q r) = rw (q, r) c
 grown-classes c (more y g a p q r) = rw (q, r) (classes-more a (grown-classes c g))
 
@@ -182,22 +182,22 @@ pub built-classes : {N k : ℕ} {tr f m : ℕ → ℕ} → Built N tr k f m → 
 built-classes = grown-classes (record { flat = λ x. refl; own = λ x l. refl; low = λ x l. l; ring = λ x e. ring-alone x })
 
 -- Joins are counted, and a trail is only read up to the last of them.
-pub grown-up : {N k k' : ℕ} {tr f m f' m' : ℕ → ℕ} → Grown N tr k f m k' f' m' → k ≤ k'
+pub grown-up : {N k : ℕ} {tr f m : ℕ → ℕ} {k' : ℕ} {f' m' : ℕ → ℕ} → Grown N tr k f m k' f' m' → k ≤ k'
 grown-up (none p q r) = omega arith
 grown-up (more y g a p q r) = omega (arith, grown-up g)
 
-pub grown-trail : {N k k' : ℕ} {tr tr' f m f' m' : ℕ → ℕ} → ((j : ℕ) → j < k' → tr' j ≡ tr j) → Grown N tr k f m k' f' m' → Grown N tr' k f m k' f' m'
+pub grown-trail : {N k : ℕ} {tr tr' f m : ℕ → ℕ} {k' : ℕ} {f' m' : ℕ → ℕ} → ((j : ℕ) → j < k' → tr' j ≡ tr j) → Grown N tr k f m k' f' m' → Grown N tr' k f m k' f' m'
 grown-trail e (none p q r) = none p q r
-grown-trail {k' = k'} {tr = tr} {tr' = tr'} {f' = f'} {m' = m'} e (more {j = j} {g = g} {h = h} y G a p q r) =
+grown-trail {tr = tr} {tr' = tr'} {k' = k'} {f' = f'} {m' = m'} e (more {j = j} {g = g} {h = h} y G a p q r) =
     let z : tr' j ≡ tr j = e j (omega arith) in
     more {f' = f'} {m' = m'} y (grown-trail (λ i l. e i (omega arith)) G) (rw z a) p (rw z q) (rw z r)
 
-pub grown-then : {N k k' k'' : ℕ} {tr f m f' m' f'' m'' : ℕ → ℕ} → Grown N tr k f m k' f' m' → Grown N tr k' f' m' k'' f'' m'' → Grown N tr k f m k'' f'' m''
+pub grown-then : {N k k' : ℕ} {tr f m f' m' : ℕ → ℕ} {k'' : ℕ} {f'' m'' : ℕ → ℕ} → Grown N tr k f m k' f' m' → Grown N tr k' f' m' k'' f'' m'' → Grown N tr k f m k'' f'' m''
 grown-then g (none p q r) = rw (p, q, r) g
 grown-then g (more y h a p q r) = more y (grown-then g h) a p q r
 
 -- What was one class stays one.
-pub grown-level : {N k k' x y : ℕ} {tr f m f' m' : ℕ → ℕ} → Grown N tr k f m k' f' m' → f x ≡ f y → f' x ≡ f' y
+pub grown-level : {N k x y : ℕ} {tr f m : ℕ → ℕ} {k' : ℕ} {f' m' : ℕ → ℕ} → Grown N tr k f m k' f' m' → f x ≡ f y → f' x ≡ f' y
 grown-level (none p q r) e = rw q e
 grown-level {tr = tr} (more {j = j} z g a p q r) e = rw q (ap (into z (tr j)) (grown-level g e))
 

@@ -98,7 +98,7 @@ join-fewer {N} {f} {x} {y} a = count-less-one (λ z. eqb (f z) z) (λ z. eqb (in
     go z n (no e) = rw (joined-else a z e)
     go z n (yes e) = ne_eqb (f z) z (λ q. n (sym q ∙ e)) ∙ sym (rw (joined-x a z e) (ne_eqb y z (λ q. a.differ (sym e ∙ ap f (sym q) ∙ a.y-own))))
 
-pub built-count : {N k : ℕ} {tr f m : ℕ → ℕ} → Built N tr k f m → k + classes f N ≡ classes (λ x. x) N
+pub built-count : {N : ℕ} {tr : ℕ → ℕ} {k : ℕ} {f m : ℕ → ℕ} → Built N tr k f m → k + classes f N ≡ classes (λ x. x) N
 built-count {N} {k} (none p q r) = rw q (omega arith)
 built-count {N} {k} (more y g a p q r) = rw q (omega (arith, built-count g, join-fewer a))
 

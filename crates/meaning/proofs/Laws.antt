@@ -73,7 +73,7 @@ pub reason-follows : {N : ℕ} {rs : List Rec} {R s t : ℕ} {L : List ℕ} → 
 reason-follows h = more_of h.stand h.entails
 
 -- Of one tag or more there is one class or more, so a reason has at most 2(N-1) numbers, of which document 01's needed room is made.
-pub classes-some : {N : ℕ} {S : Rec → Type 0} {n : ℕ} → 1 ≤ N → Classes N S n → 1 ≤ n
+pub classes-some : {S : Rec → Type 0} {N n : ℕ} → 1 ≤ N → Classes N S n → 1 ≤ n
 classes-some h none = absurd (omega arith)
 classes-some h (one p c) = omega arith
 classes-some h (skip {N = zero} p c) = absurd (p (record { member = same; least = λ x f. omega arith }))

@@ -7,7 +7,7 @@ use mathlib.Core.Logic.{◌↔◌}
 use mathlib.Core.List.{List, [], ◌∷◌}
 use lib.ListN.{length, get_or}
 use lib.Seq.{ext_get_or}
-use Rattle.meaning.specs.Following.{Rec, eq, app, Follows, congruent, given, UpTo, Leader}
+use Rattle.meaning.specs.Following.{Rec, eq, app, Follows, congruent, given, UpTo}
 use Rattle.meaning.specs.Looks.{under, Led, Looks}
 use Rattle.meaning.proofs.Close.{complete}
 use Rattle.meaning.proofs.Reference.{Small}

@@ -10,7 +10,7 @@ use mathlib.Core.List.{List, [], ◌∷◌, Memᴰ}
 use lib.Dec.{T, eqb}
 use borrow.Author.Tests.{eq-eqb, eqb-true}
 use lib.ListN.{length, get_or}
-use Rattle.meaning.specs.Following.{Rec, eq, Follows, Those, UpTo, Only, Without}
+use Rattle.meaning.specs.Following.{Rec, eq, Follows, Those, Only, Without}
 use Rattle.meaning.specs.Reasons.{Above, last_of, FirstAt, Reason}
 use Rattle.meaning.specs.Joins.{used, all, count, tick}
 use Rattle.meaning.specs.Labels.{Labels, classes}

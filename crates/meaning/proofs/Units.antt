@@ -9,7 +9,7 @@ use mathlib.Core.Logic.{◌≢◌, ◌↔◌}
 use mathlib.Core.List.{List, [], ◌∷◌, Memᴰ}
 use lib.Dec.{leb}
 use lib.ListN.{length, get_or}
-use Rattle.meaning.specs.Following.{Rec, eq, Follows, same, flip, chain, Class, UpTo, Least, Leader, unit, no-unit}
+use Rattle.meaning.specs.Following.{Rec, eq, Follows, flip, chain, Class, UpTo, Least, Leader, unit, no-unit}
 use Rattle.meaning.specs.Labels.{Labels}
 use Rattle.meaning.specs.Seats.{Found, first, nowhere}
 use Rattle.meaning.specs.Totals.{Count, none, one, skip, Classes}

@@ -1,10 +1,12 @@
 // The two numbers of document 01, "Tags, records, following": both fill two bytes and neither may stand for the other. Their fields are
 // private, so that the compiler keeps them apart: a number is opened by `number` and `place` and closed by `of`, and .ci/openings lists the crates
 // that may. What they mean, and the mathematics of it, is in specs/ and proofs/. Rests on nothing.
+#![tactic(auto)]
+
 ghost use Rattle.std.specs.Prelude.{◌≡◌, eqb, ltb};
 
 // The number of a tag: a unit, a probe or a scaling, 0 to N-1.
-#[derive(Drop)]
+#[derive(Clone, Copy)]
 pub struct Tag(u16);
 
 // What stands for a tag in a place that is blank.
@@ -52,7 +54,7 @@ impl Tag {
 }
 
 // The number of a record: a line of the job, from 1. 0 is no record.
-#[derive(Drop)]
+#[derive(Clone, Copy)]
 pub struct RecordNo(u16);
 
 pub const NO_RECORD: RecordNo = RecordNo(0);

@@ -49,7 +49,7 @@ module _ (p g : ℕ → ℕ) (K : Links p g most_tags most_tags) (top : ℕ) (un
       let z : j ≡ d = depth-one (rw e at J) D in
       omega arith
   stop-deep a m (leads h) (suc i) k q l j J = absurd (omega arith)
-  stop-deep a m {s} {d} (linked {d = d'} h D) (suc i) k q l j J = go (dec_lt (g s) a) (λ x. stop-deep a m D i k (omega arith) l j x)
+  stop-deep a m {s} {d} (linked {d = d'} h D) (suc i) k q l j J = go (dec_lt (g s) a) (λ x. stop-deep a m {s = p s} {d = d'} D i k (omega arith) l j x)
     where
       go : Dec (g s < a) → (Depth p g top (root p g a (p s)) j → k ≤ j) → k ≤ j
       go (yes x) f = f (rw (root-up p g most_tags most_tags K a (omega arith) (omega arith) s x) at J)

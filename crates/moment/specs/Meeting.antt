@@ -1,6 +1,6 @@
 -- When two tags came together, read off the links of the table. Document 01, "Reasons": the first k such that equality follows.
 -- Assumes nothing.
-use Rattle.std.specs.Prelude.{ℕ, suc, ◌≤◌, ◌<◌, ◌≡◌, ◌≢◌, List, length}
+use Rattle.std.specs.Prelude.{ℕ, suc, ◌≤◌, ◌<◌, ◌≡◌, ◌≢◌, List}
 use Rattle.meaning.specs.Forest.{root, Links}
 use Rattle.meaning.specs.Limits.{most_tags}
 use Rattle.table.specs.Map.{parent_of, age_of}

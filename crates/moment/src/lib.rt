@@ -1,5 +1,7 @@
 // A question at its moment: when two tags came together and who led them, by the links that the closure left, and what those who answer a question and
 // those who test an answer have in common. Document 01, "Reasons" and "The job and the report". Rests on meaning and table.
+#![tactic(auto)]
+
 ghost use Rattle.std.specs.Prelude.{◌≡◌, ◌≢◌, ℕ, max, ◌≤◌, ◌<◌, length};
 ghost use Rattle.meaning.specs.Limits.{most_tags};
 ghost use Rattle.table.specs.Map.{when_of};
@@ -51,7 +53,7 @@ pub fn leader(work: &[u16], age: usize, x: Tag) -> Tag
 }
 
 // Where two climbs stand.
-#[derive(Drop)]
+#[derive(Clone, Copy)]
 pub struct Abreast {
     pub x: Tag,
     pub y: Tag,
@@ -77,7 +79,7 @@ fn climb_abreast(work: &[u16], top: usize, s: Tag, t: Tag) -> Abreast
 }
 
 // Where a climb stands, and the age of the last link it took, or 0.
-#[derive(Drop)]
+#[derive(Clone, Copy)]
 pub struct Climb {
     pub at: Tag,
     pub newest: usize,
@@ -161,7 +163,7 @@ pub fn met(work: &[u16], s: Tag, t: Tag) -> usize
 // What is asked.
 
 // What is asked about: N tags, of which those from `unit` up are units, whether records have sheets, so many records, and the joins they led to.
-#[derive(Drop)]
+#[derive(Clone, Copy)]
 pub struct Closed {
     pub size: usize,
     pub unit: usize,
@@ -171,7 +173,7 @@ pub struct Closed {
 }
 
 // A question at its moment: N and U and the edition, the numbers of all records and of all joins, the records before it, and its two tags.
-#[derive(Drop)]
+#[derive(Clone, Copy)]
 pub struct Question {
     pub size: usize,
     pub unit: usize,

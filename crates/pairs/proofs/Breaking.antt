@@ -1,6 +1,6 @@
 -- What the scan of the pairs before a 06 says of the job: the earliest that is broken, with the record at which it broke, or that none is.
 -- Assumes nothing.
-use Prim.Native.Nat.{ℕ, suc, ◌+◌, ◌-◌, ◌≤◌, ◌<◌}
+use Prim.Native.Nat.{ℕ, suc, ◌+◌, ◌-◌, ◌≤◌}
 use native.Mathlib.Omega.{arith}
 use mathlib.Core.Path.{◌≡◌, refl, sym, ◌∙◌, ap}
 use mathlib.Core.List.{List, [], ◌++◌, append_assoc}
@@ -15,7 +15,7 @@ use Rattle.table.specs.Places.{LIST, SINCE, from_to}
 use Rattle.table.specs.Past.{Past}
 use Rattle.table.proofs.Frame.{length-gather}
 use Rattle.report.specs.Broken.{pair_no, Earliest, Unbroken}
-use Rattle.pairs.specs.Marks.{Marked, Noted, Scanned}
+use Rattle.pairs.specs.Marks.{Noted, Scanned}
 use Rattle.pairs.specs.Found.{Sought}
 use Rattle.pairs.specs.Breaking.{Breaking, Guarded}
 use Rattle.pairs.proofs.Marking.{marked-kept, scanned-some, scanned-none, scanned-first}

@@ -4,10 +4,10 @@ use Prim.Native.Nat.{ℕ, suc, ◌+◌, ◌-◌, ◌≤◌, ◌<◌}
 use native.Mathlib.Omega.{arith}
 use mathlib.Core.Path.{◌≡◌, refl, sym, ◌∙◌, ap}
 use mathlib.Core.List.{List, [], ◌∷◌, ◌++◌}
-use lib.ListN.{length, get_or, length-append}
-use Rattle.job_field.specs.Items.{Pair, Note, line, differ, pairs_noted, Item, noted, posed, pairs_of, tags_of}
-use Rattle.job_field.specs.Reading.{Field, bad, header, item, end, field_standing, behind_at, head_in, items_in}
-use Rattle.job_field.specs.Standing.{Stands, ends, next, Job, Tagged}
+use lib.ListN.{length, length-append}
+use Rattle.job_field.specs.Items.{Pair, Note, line, differ, pairs_noted, Item, noted, posed, pairs_of}
+use Rattle.job_field.specs.Reading.{Field, item, field_standing, behind_at, head_in, items_in}
+use Rattle.job_field.specs.Standing.{Stands, ends, next, Tagged}
 use Rattle.job_field.proofs.Standing.{stands-within}
 use Rattle.report.specs.Broken.{pair_no}
 use Rattle.pairs.specs.declared.Differing.{Differing}

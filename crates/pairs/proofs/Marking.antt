@@ -1,11 +1,11 @@
 -- A pair that is marked stands behind those that were marked before it, which stay as they were; and the first whose number has been reached is the
 -- earliest that is broken.
 -- Assumes nothing.
-use Prim.Native.Nat.{ℕ, zero, suc, ◌+◌, ◌-◌, ◌≤◌, ◌<◌}
+use Prim.Native.Nat.{ℕ, suc, ◌+◌, ◌-◌, ◌≤◌, ◌<◌}
 use native.Mathlib.Omega.{arith}
 use native.Mathlib.Decide.{ℕ_discrete, dec_lt}
-use mathlib.Core.Path.{◌≡◌, refl, sym, ◌∙◌, ap, subst}
-use mathlib.Core.Logic.{◌⊎◌, inl, inr}
+use mathlib.Core.Path.{◌≡◌, subst}
+use mathlib.Core.Logic.{inr}
 use mathlib.Core.List.{List, [], ◌∷◌, ◌++◌, append-nil}
 use lib.ListN.{length, get_or, set, length-append, get_or-append}
 use lib.Seq.{get_or-append_seam}
@@ -14,8 +14,8 @@ use Rattle.meaning.specs.Limits.{most_differs}
 use Rattle.meaning.specs.Reasons.{FirstAt}
 use Rattle.meaning.specs.Joins.{put}
 use Rattle.meaning.proofs.Log.{put-hit, put-miss}
-use Rattle.job_field.specs.Items.{Pair, Note, line, differ, pairs_noted}
-use Rattle.table.specs.Map.{rec_at, records_in, since_of, Within}
+use Rattle.job_field.specs.Items.{Pair, Note, differ, pairs_noted}
+use Rattle.table.specs.Map.{rec_at, since_of, Within}
 use Rattle.table.specs.Places.{Large, Part, SINCE, all_of}
 use Rattle.table.proofs.Frame.{seen-in, seen-within, within-refl, within-set, length-gather}
 use Rattle.report.specs.Broken.{pair_no, Broken, Earliest, Unbroken}

@@ -1,5 +1,7 @@
 // Tags that must differ, while questions are answered: when the tags of each pair became equal, kept in the table once the pair is passed, which pair is the
 // earliest that is broken, and its tags. Document 02, No. 1. Rests on meaning, job_field, table, moment and report.
+#![tactic(auto)]
+
 ghost use Rattle.std.specs.Prelude.{◌≡◌, ◌≤◌, ◌<◌, length};
 ghost use Rattle.meaning.specs.Limits.{most_differs};
 ghost use Rattle.job_field.specs.Items.{pairs_noted};
@@ -84,7 +86,7 @@ pub fn first_broken(work: &[u16], count: usize, before: usize) -> usize
 }
 
 // The two tags of a pair.
-#[derive(Drop)]
+#[derive(Clone, Copy)]
 pub struct Differing {
     pub s: Tag,
     pub t: Tag,

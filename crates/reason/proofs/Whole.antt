@@ -28,7 +28,7 @@ use Rattle.table.specs.Places.{LIST, Large, Part, SINCE, scratch}
 use Rattle.moment.specs.Meeting.{Met}
 use Rattle.moment.specs.Holding.{Holds, marked}
 use Rattle.reason_follow.specs.Tracing.{Together, Traced, Unmarked, Unfollowed}
-use Rattle.moment.proofs.Kept.{kept-records, kept-joins, kept-past, kept-loaded, kept-marks, kept-whens}
+use Rattle.moment.proofs.Kept.{kept-records, kept-joins, kept-past, kept-loaded, kept-whens}
 use Rattle.reason_follow.specs.Ways.{follow_part}
 use Rattle.moment.proofs.Known.{join_one, join-two}
 use Rattle.moment.proofs.Moments.{met-first, met-join, met-later, met-never, made_by}

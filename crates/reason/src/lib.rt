@@ -1,13 +1,15 @@
 // Reasons: for two tags that are equal by the records before a question, a list of record numbers that is a reason. Document 01,
 // "Reasons". Rests on moment, which finds the newest join between the tags, on reason_follow, which marks that join and all it rests on, on
 // reason_list, which lists their records, on reason_trim, which takes out the spare ones, on reason_order, which puts the others in order, and on table.
+#![tactic(auto)]
+
 ghost use Rattle.std.specs.Prelude.{ℕ, ◌≤◌, ◌<◌};
 ghost use Rattle.reason.specs.Explaining.{Question, Explained, Joining, Reasoned};
 
 use meaning::Tag;
 
 // What is said of two tags: so many numbers of the list are a reason for them, or their equality does not follow.
-#[derive(Drop)]
+#[derive(Clone, Copy)]
 pub enum Answer {
     Because(usize),
     Apart,

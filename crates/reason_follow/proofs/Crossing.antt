@@ -3,22 +3,20 @@
 use Prim.Native.Nat.{ℕ, suc, ◌+◌, ◌≤◌, ◌<◌}
 use native.Mathlib.Omega.{arith}
 use native.Mathlib.Decide.{ℕ_discrete, dec_lt}
-use mathlib.Core.Path.{◌≡◌, refl, sym, ◌∙◌, ap, subst, fun_ext}
+use mathlib.Core.Path.{◌≡◌, refl, ◌∙◌, ap, fun_ext}
 use mathlib.Core.Logic.{◌≢◌, ◌⊎◌, inl, inr}
-use mathlib.Core.Bool.{Bool, true}
+use mathlib.Core.Bool.{true}
 use mathlib.Core.List.{List}
-use lib.Dec.{T, eqb}
+use lib.Dec.{eqb}
 use borrow.Author.Tests.{eq-eqb}
-use lib.ListN.{length, set}
+use lib.ListN.{set}
 use Rattle.meaning.specs.Following.{Rec}
-use Rattle.meaning.specs.Joins.{Join, Linked, over, Supported, put}
-use Rattle.meaning.specs.Walk.{Walked}
-use Rattle.meaning.specs.Needed.{Crosses, Aim, tags, join, Needed, near-side, far-side, across, itself, lefts, rights}
+use Rattle.meaning.specs.Joins.{Join, Supported, put}
+use Rattle.meaning.specs.Needed.{Crosses}
 use Rattle.meaning.proofs.Forest.{newest}
-use Rattle.meaning.proofs.Log.{linked-refl, linked-sym, linked-trans, linked-more, linked_up, put-hit, put-miss}
-use Rattle.meaning.proofs.Walk.{walk_same, walk-by, walk-cong}
+use Rattle.meaning.proofs.Log.{put-hit, put-miss}
 use Rattle.meaning.specs.Limits.{most_records, most_tags}
-use Rattle.table.specs.Map.{left_of, right_of, parent_of, age_of, first_of, second_of, label_of, mark_of, join_at, records_in, Within}
+use Rattle.table.specs.Map.{left_of, right_of, parent_of, age_of, first_of, second_of, label_of, mark_of, join_at, Within}
 use Rattle.table.proofs.Frame.{seen-in, seen-out, within-refl, within-trans, within_wider, within-set}
 use Rattle.table.specs.Past.{Past}
 use Rattle.table.specs.Places.{LABEL, LIST, Large, MARKS, NEXT, SAVED, all_of, closure_part, from_to, list_part}
@@ -29,7 +27,7 @@ use Rattle.moment.specs.Holding.{Holds, marked}
 use Rattle.reason_follow.specs.Shown.{Taken, Forgot, order_part, taken_part}
 use Rattle.reason_follow.specs.Ways.{follow_part}
 use Rattle.reason_follow.specs.Tracing.{Together, Crossed, Sided, Caused, Unmarked}
-use Rattle.moment.proofs.Kept.{kept-parents, kept_ages, kept-records, kept-joins, kept-past, kept-holds, kept-marks, holds-fewer}
+use Rattle.moment.proofs.Kept.{kept-parents, kept_ages, kept-holds, kept-marks, holds-fewer}
 use Rattle.moment.proofs.Known.{join_one, join-two}
 
 -- The numbers of a join that is there are in their ranges.

@@ -1,6 +1,6 @@
 -- Two tags that joins older than b connect, and marked joins of any age, are connected by marked joins older than b: a younger one on the way would have had its ends together before it.
 -- So what is shown equal need not be followed again, whatever the limit. Assumes nothing.
-use Prim.Native.Nat.{ℕ, zero, suc, ◌+◌, ◌≤◌, ◌<◌}
+use Prim.Native.Nat.{ℕ, zero, suc, ◌≤◌, ◌<◌}
 use native.Mathlib.Omega.{arith}
 use native.Mathlib.Decide.{ℕ_discrete, dec_le}
 use mathlib.Core.Path.{◌≡◌, sym, ◌∙◌, ap}

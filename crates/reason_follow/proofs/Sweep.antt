@@ -1,23 +1,22 @@
 -- From the newest join down, each marked one is given what it rests on, which is older than itself: what is marked later never rests on a younger join. Assumes nothing.
-use Prim.Native.Nat.{ℕ, zero, suc, ◌+◌, ◌≤◌, ◌<◌}
+use Prim.Native.Nat.{ℕ, suc, ◌≤◌, ◌<◌}
 use native.Mathlib.Omega.{arith}
 use native.Mathlib.Decide.{ℕ_discrete, dec_lt}
-use mathlib.Core.Path.{◌≡◌, refl, sym, ◌∙◌, ap}
+use mathlib.Core.Path.{◌≡◌, refl, sym, ◌∙◌}
 use mathlib.Core.Logic.{◌≢◌, ◌⊎◌, inl, inr}
 use mathlib.Core.Bool.{Bool}
 use mathlib.Core.List.{List}
-use lib.Dec.{T, eqb}
+use lib.Dec.{T}
 use borrow.Author.Tests.{ne_eqb}
 use Rattle.meaning.specs.Following.{Rec}
 use Rattle.meaning.specs.Joins.{Join, Linked, Grounds, equation, applications, Supported}
-use Rattle.meaning.specs.Walk.{Walked}
 use Rattle.meaning.specs.Needed.{Aim, tags, join, Needed, near-side, far-side, across, itself, lefts, rights}
 use Rattle.meaning.proofs.Log.{linked-more, grounds-more}
-use Rattle.table.specs.Map.{left_of, right_of, first_of, second_of, mark_of, join_at, records_in, Within}
+use Rattle.table.specs.Map.{mark_of, join_at, records_in, Within}
 use Rattle.table.specs.Past.{Past}
 use Rattle.table.specs.Places.{list_part}
 use Rattle.table.proofs.Frame.{within-refl, within-trans, within_wider}
-use Rattle.moment.specs.Holding.{Holds, marked}
+use Rattle.moment.specs.Holding.{marked}
 use Rattle.moment.proofs.Kept.{kept-joins, kept-records, kept-past, kept-marks}
 use Rattle.moment.proofs.Known.{Two, join_one, join-two}
 use Rattle.reason_follow.specs.Shown.{Remembers, Forgot}

@@ -2,18 +2,18 @@
 -- less at each step. Assumes nothing.
 use Prim.Native.Nat.{ℕ, zero, suc, ◌+◌, ◌-◌, ◌*◌, ◌≤◌, ◌<◌}
 use native.Mathlib.Omega.{arith}
-use native.Mathlib.Decide.{ℕ_discrete, dec_lt}
-use mathlib.Core.Path.{◌≡◌, refl, sym, ◌∙◌, ap, subst}
+use native.Mathlib.Decide.{ℕ_discrete}
+use mathlib.Core.Path.{◌≡◌, refl, sym, ◌∙◌, ap}
 use mathlib.Core.Logic.{◌≢◌, ◌⊎◌, inl, inr}
 use mathlib.Core.Bool.{Bool, true}
 use mathlib.Core.List.{List}
-use lib.Dec.{T, ltb}
-use lib.ListN.{length, set}
+use lib.Dec.{T}
+use lib.ListN.{set}
 use borrow.Author.Tests.{lt-ltb, le-ltb}
 use Rattle.meaning.specs.Following.{Rec}
 use Rattle.meaning.specs.Joins.{Join, Linked, over, Joined, put}
-use Rattle.meaning.specs.Needed.{Crosses, tags, join, Needed, near-side, far-side, across, itself}
-use Rattle.meaning.specs.Limits.{most_tags, most_records}
+use Rattle.meaning.specs.Needed.{Crosses, tags, Needed, near-side, far-side, across, itself}
+use Rattle.meaning.specs.Limits.{most_tags}
 use Rattle.meaning.proofs.Log.{linked-refl, linked-sym, linked-trans, linked-more, linked_up, put-hit, put-miss}
 use Rattle.table.specs.Map.{label_of, next_of, join_at, Within}
 use Rattle.table.specs.Places.{LABEL, NEXT, Large, list_part}
@@ -23,7 +23,7 @@ use Rattle.moment.specs.Deep.{MetBefore}
 use Rattle.moment.specs.Holding.{Holds, marked}
 use Rattle.moment.proofs.Kept.{kept-joins, kept-marks, holds-fewer}
 use Rattle.reason_follow.specs.Shown.{Shown, Remembers, Noted, Taken}
-use Rattle.reason_follow.specs.Ways.{follow_part, Entry, age_in, Waits, Waiting, none, after, OnWay, SomeWay, heft, pile, weight, Onward, Listed, Read, Put, Turned, Asks, Nearest, Passed}
+use Rattle.reason_follow.specs.Ways.{follow_part, Entry, age_in, Waits, Waiting, none, after, OnWay, heft, pile, weight, Listed, Read, Put, Turned, Asks, Nearest, Passed}
 use Rattle.reason_follow.specs.Tracing.{Together, Crossed, Ended, Sided}
 use Rattle.reason_follow.proofs.Crossing.{holds-ranged, wider, kept-leader, kept-still, kept-together, crosses-of, crossed-of}
 use Rattle.reason_follow.proofs.Shown.{any, linked-old, shown-join, shown-mark, shown-to}

@@ -2,6 +2,8 @@
 // all of which rest on older joins. Document 01, "Reasons". What waits to be followed stands in the work table, and the one function
 // that calls itself keeps little for that call, so that less stack is needed (document 02, No. 5; bench/stack measures it). Labels remember which tags
 // are shown equal, and between these no way is followed again. Rests on moment, table_labels and table.
+#![tactic(auto)]
+
 ghost use Rattle.std.specs.Prelude.{◌≡◌, ◌≢◌, ℕ, suc, ◌+◌, ◌≤◌, ◌<◌, length, set};
 ghost use Rattle.meaning.specs.Needed.{tags};
 ghost use Rattle.meaning.specs.Limits.{most_tags};
@@ -21,7 +23,7 @@ const ORDER: usize = meaning::MOST_TAGS;
 const TAKEN: usize = 2 * meaning::MOST_TAGS;
 
 // The two tags that a join brought together.
-#[derive(Drop)]
+#[derive(Clone, Copy)]
 pub struct Pair {
     pub near: Tag,
     pub far: Tag,
@@ -70,7 +72,7 @@ fn sides(work: &[u16], s: Tag, t: Tag, b: usize) -> Pair
 }
 
 // A join's second record, and the argument pairs of its two records: a with a2, c with c2.
-#[derive(Drop)]
+#[derive(Clone, Copy)]
 pub struct Causes {
     pub second: RecordNo,
     pub a: Tag,
@@ -99,7 +101,7 @@ fn causes_of(work: &[u16], b: usize) -> Causes
 }
 
 // A join that waits to be crossed: its age, and the two tags that it brought together, the one that the way comes from first.
-#[derive(Drop)]
+#[derive(Clone, Copy)]
 pub struct Turn {
     pub age: usize,
     pub near: Tag,
@@ -151,7 +153,7 @@ fn put_waiting(work: &mut [u16], n: usize, b: usize, e: Pair)
 
 // Where a way between two tags has come: to the tag `at`. The next tag that is known of it is `to`, the joins up to there are older than `below`, and so many
 // joins wait to be crossed behind that.
-#[derive(Drop)]
+#[derive(Clone, Copy)]
 pub struct Way {
     pub at: Tag,
     pub to: Tag,

@@ -1,5 +1,7 @@
 // Whether the numbers that stand in the table's list, each once, suffice for a reason: they make s and t equal, and none of them can be
 // spared. Document 01, "Reasons". Rests on table, moment, list_halve, reason_trim and reason_order.
+#![tactic(auto)]
+
 ghost use Rattle.std.specs.Prelude.{◌≤◌};
 ghost use Rattle.table.specs.Places.{Large, waiting_at};
 ghost use Rattle.moment.specs.Posed.{Deciding};

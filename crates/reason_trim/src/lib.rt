@@ -1,5 +1,7 @@
 // Taking out the spare records: those that wait come to the front of the list, the spare ones are left out by halves, and the others close up. Document 01,
 // "Reasons". Rests on reason_list, on list_halve and on table.
+#![tactic(auto)]
+
 ghost use Rattle.std.specs.Prelude.{◌+◌, ◌≤◌, ◌<◌};
 ghost use Rattle.meaning.specs.Limits.{most_records};
 ghost use Rattle.table.specs.Places.{Large, front_size};

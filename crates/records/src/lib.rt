@@ -1,5 +1,7 @@
 // The record table: a lent slice of 4,000 places, each a kind, three numbers and a sheet. Document 01, "What is lent, and each refusal".
 // Rests on meaning. These are the only functions that touch a place of it; a longer table is accepted, and its rest is left alone.
+#![tactic(auto)]
+
 ghost use Rattle.std.specs.Prelude.{◌≡◌, ◌<◌, ◌≤◌, length, set, get_or};
 ghost use Rattle.meaning.specs.Limits.{named_places};
 ghost use Rattle.records.specs.Table.{blank, Blanked};
@@ -11,7 +13,7 @@ pub const NAMED: usize = meaning::NAMED_PLACES;
 
 // A place of the table. Kind 1 is the record a = b, with c zero; kind 2 is f(a, b) = c; kind 0 is no record, and then all is zero. The record's sheet is 0
 // where it has none (document 02, No. 9).
-#[derive(Drop)]
+#[derive(Clone, Copy)]
 pub struct Record {
     pub kind: u16,
     pub a: Tag,

@@ -64,8 +64,8 @@ note-small N (differ a b) t = tt
 
 stands-small : (job : List ℕ) (N at : ℕ) (items : List Item) → Stands job N at items → AllSmall N (records_of items)
 stands-small job N at [] s = tt
-stands-small job N at (noted n ∷ is) (next e t v l s) = all_append N (stands_for n) (records_of is) (note-small N n t) (stands-small job N _ is s)
-stands-small job N at (posed q ∷ is) (next e t v l s) = stands-small job N _ is s
+stands-small job N at (noted n ∷ is) (next e t v l s) = all_append N (stands_for n) (records_of is) (note-small N n t) (stands-small job N (behind_at job at) is s)
+stands-small job N at (posed q ∷ is) (next e t v l s) = stands-small job N (behind_at job at) is s
 
 -- Nothing to load.
 pub none-loadable : (t : List Record) (w : List ℕ) → Large w → Loadable 0 t w

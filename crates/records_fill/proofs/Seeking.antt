@@ -1,14 +1,14 @@
 -- The search for the next record: questions have no record, so that passing over them leaves the records that stand ahead as they are;
 -- and each lies within the job, so that the search ends.
 -- Assumes nothing.
-use Prim.Native.Nat.{ℕ, suc, ◌+◌, ◌-◌, ◌≤◌, ◌<◌}
+use Prim.Native.Nat.{ℕ, suc, ◌-◌, ◌≤◌, ◌<◌}
 use native.Mathlib.Omega.{arith}
 use mathlib.Core.Path.{◌≡◌, refl, sym, ◌∙◌, ap}
 use mathlib.Core.Bool.{Bool, true, false, cond}
 use mathlib.Core.List.{List, [], ◌∷◌}
 use lib.ListN.{length}
 use Rattle.meaning.specs.Following.{Rec}
-use Rattle.job_field.specs.Items.{Head, Note, line, differ, Item, noted, posed, records_of, sheets_of}
+use Rattle.job_field.specs.Items.{Head, line, differ, Item, noted, posed, records_of, sheets_of}
 use Rattle.job_field.specs.Reading.{Field, bad, header, item, end, behind_at, field_standing}
 use Rattle.job_field.specs.Standing.{Stands, Met}
 use Rattle.job_field.proofs.Reading.{field-whole}

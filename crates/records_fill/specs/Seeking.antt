@@ -1,6 +1,6 @@
 -- Document 01, "The job and the report": the records of a job in the order they stand, as the cursor meets them one after the other.
 -- Assumes nothing.
-use Rattle.std.specs.Prelude.{ℕ, ◌≡◌, Bool, true, false, List, [], ◌∷◌}
+use Rattle.std.specs.Prelude.{ℕ, ◌≡◌, Bool, true, false, List, ◌∷◌}
 use Rattle.meaning.specs.Following.{Rec}
 use Rattle.job_field.specs.Items.{Head, Note, line, differ, Item, noted, posed, records_of, sheets_of}
 use Rattle.job_field.specs.Reading.{Field, bad, header, item, end, behind_at, field_standing}

@@ -1,5 +1,7 @@
 // The way of a job's records: found in its bytes one after the other, stored in the record table, and loaded from there into the work table's
 // columns. Document 01, "The job and the report" and "What is lent, and each refusal". Rests on job_field, records and table.
+#![tactic(auto)]
+
 ghost use Rattle.std.specs.Prelude.{◌≡◌, ◌<◌, ◌≤◌, length};
 ghost use Rattle.meaning.specs.Following.{eq, app};
 ghost use Rattle.meaning.specs.Limits.{most_records};
@@ -22,7 +24,7 @@ use table::{put_application, put_equation, record_at};
 
 // What the cursor found at a place: a field that is passed over (the first one, a question or a note that stands for no record: `question`
 // is true for each), or a record as it stands in the record table; and where the next field stands.
-#[derive(Drop)]
+#[derive(Clone, Copy)]
 pub struct Found {
     pub question: bool,
     pub place: Record,

@@ -9,7 +9,7 @@ use mathlib.Core.List.{List}
 use Rattle.meaning.specs.Following.{Rec}
 use Rattle.job_field.specs.Items.{Head, Matter, Moment, Question, ask, explain, broken, why, room_for}
 use Rattle.meaning.specs.Reasons.{Reason}
-use Rattle.report.specs.Report.{numbers, field, Reasoned, because, breached, Answers, led, reasoned, apart, parted, joined, Known, tabled, after_records}
+use Rattle.report.specs.Report.{numbers, field, Reasoned, because, breached, Answers, led, reasoned, parted, joined, Known, tabled, after_records}
 use Rattle.report.specs.Fault.{Stands, stands}
 
 pub stands-map : {P Q : List ℕ → Type 0} {bs : List ℕ} → ((f : List ℕ) → P f → Q f) → Stands P bs → Stands Q bs

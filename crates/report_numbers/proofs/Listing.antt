@@ -1,13 +1,13 @@
 -- Reading a reason into the list: the next number comes behind those that are there, which stay as they are. Comparing it with the list:
 -- the numbers stand there exactly if each stands at its own place.
 -- Assumes nothing.
-use Prim.Native.Nat.{ℕ, zero, suc, ◌+◌, ◌*◌, ◌≤◌, ◌<◌}
+use Prim.Native.Nat.{ℕ, zero, suc, ◌+◌, ◌*◌, ◌<◌}
 use native.Mathlib.Omega.{arith}
 use native.Mathlib.Numerals.{add-one}
 use native.Mathlib.Decide.{ℕ_discrete}
-use mathlib.Core.Path.{◌≡◌}
+use mathlib.Core.Path.{◌≡◌, ◌∙◌, ap}
 use mathlib.Core.List.{List, [], ◌∷◌, ◌++◌}
-use lib.ListN.{length, set}
+use lib.ListN.{set}
 use Rattle.meaning.specs.Joins.{put}
 use Rattle.meaning.proofs.Log.{put-hit, put-miss}
 use Rattle.meaning.specs.Limits.{most_records}
@@ -31,7 +31,9 @@ unfolding numbers two
 list-more w i n l k =
     let e : list_of (set w (LIST.at + i) n) ≡ put i n (list_of w) = seen-in LIST w i n l (omega arith) in
     let same : gather (put i n (list_of w)) i ≡ list_in i w = gather-same (put i n (list_of w)) (list_of w) i (λ j m. put-miss i n (list_of w) j (λ q. omega arith)) in
-    rw (add-one, e, same, put-hit i n (list_of w)) (numbers-append (list_in i w) (n ∷ []))
+    let last : put i n (list_of w) i ≡ n = put-hit i n (list_of w) in
+    rw add-one (ap (λ (f : ℕ → ℕ). numbers (gather f (suc i))) e ∙ ap (λ (L : List ℕ). numbers (L ++ (put i n (list_of w) i ∷ []))) same
+    ∙ ap (λ (m : ℕ). numbers (list_in i w ++ (m ∷ []))) last ∙ numbers-append (list_in i w) (n ∷ []))
 
 pub list-read-more : (report : List ℕ) (at i : ℕ) (w₀ w w' : List ℕ) → i < most_records → Large w → ListRead report at i w₀ w → Placed report (at + 2 * i) i w w' → ListRead report at (i + 1) w₀ w'
 list-read-more report at i w₀ w w' l k h p = record {

@@ -1,5 +1,7 @@
 // The numbers of a reason between a report and the table's list: written from there, read back, and compared. Document 01, "The job and the report"; document 02,
 // No. 1. Rests on report_write, report_read and table.
+#![tactic(auto)]
+
 ghost use Rattle.std.specs.Prelude.{◌≡◌, ◌↔◌, true, ◌∷◌, ℕ, ◌+◌, ◌*◌, ◌≤◌, ◌<◌, length};
 ghost use Rattle.meaning.specs.Limits.{most_records};
 ghost use Rattle.table.specs.Map.{list_of, list_in};

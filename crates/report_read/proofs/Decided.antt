@@ -1,7 +1,7 @@
 -- Every report is sound or has a place at fault: the bytes at the front are those of one field or of none, and whether that field is
 -- right is decided, since following, leaders, reasons and totals are.
 -- Assumes nothing.
-use Prim.Native.Nat.{ℕ, suc, ◌+◌, ◌*◌, ◌-◌, ◌/◌, ◌%◌, ◌≤◌, ◌<◌}
+use Prim.Native.Nat.{ℕ, ◌+◌, ◌*◌, ◌/◌, ◌%◌, ◌≤◌, ◌<◌}
 use native.Mathlib.Omega.{arith}
 use native.Mathlib.Decide.{ℕ_discrete, dec_lt, dec_le}
 use mathlib.Core.Path.{◌≡◌, refl, sym, ◌∙◌, ap}

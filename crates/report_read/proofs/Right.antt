@@ -1,8 +1,7 @@
 -- Which field is right at a place: leaders and totals are one, so that one field is right for an ask, for an explain that does not
 -- follow and for the totals; for an explain that follows, the numbers that stand there decide.
 -- Assumes nothing.
-use Prim.Native.Nat.{ℕ, suc, ◌+◌, ◌*◌, ◌-◌, ◌≤◌, ◌<◌}
-use native.Mathlib.Omega.{arith}
+use Prim.Native.Nat.{ℕ, suc, ◌+◌, ◌*◌, ◌≤◌, ◌<◌}
 use mathlib.Core.Path.{◌≡◌, refl, sym, ◌∙◌, ap, subst}
 use mathlib.Core.List.{List, [], ◌∷◌, ◌++◌, append-nil, append_assoc}
 use lib.ListN.{length, drop, get_or, drop_of_length-le}
@@ -38,15 +37,20 @@ module _ {M : Matter} {b : Moment} {s t : ℕ} where
       (rest, rw (p, q))
   ask-right h k (stands (reasoned r g) rest) = absurd (no-reason refl r)
 
+  -- The reason of an explain, and its field.
+  pub explained : {L f : List ℕ} → Reasoned M b (explain s t) L f → (f ≡ field 132 (numbers L)) × Reason M.head.size M.records b.records s t L
+  explained (because r) = (refl, r)
+
   pub apart-right : {bs : List ℕ} → (Follows (UpTo M.records b.records) s t → ⊥) → Stands (Answers M b (explain s t)) bs → Begins bs (field 133 [])
-  apart-right n (stands (reasoned (because r) g) rest) = absurd (n (reason-follows r))
+  apart-right n (stands (reasoned r g) rest) = absurd (n (reason-follows (explained r).1))
   apart-right n (stands (apart h) rest) = (rest, refl)
 
   -- A list that stands there is the only one that can be right.
   pub reason-right : {bs L' : List ℕ} (L rest : List ℕ) → bs ≡ field 132 (numbers L) ++ rest → Stands (Reasoned M b (explain s t) L') bs → Reason M.head.size M.records b.records s t L
-  reason-right L rest e (stands (because {L = L'} r) more) =
-      let z : numbers L' ≡ numbers L = (field-one 132 132 (numbers L') (numbers L) more rest e).1 in
-      rw (numbers-one L' L z) at r
+  reason-right {L' = L'} L rest e (stands r more) =
+      let o = explained r in
+      let z : numbers L' ≡ numbers L = (field-one 132 132 (numbers L') (numbers L) more rest (rw o.0 at e)).1 in
+      rw (numbers-one L' L z) at o.1
 
   -- Where the equality follows, only a list can be right.
   pub follows-right : {bs : List ℕ} → Follows (UpTo M.records b.records) s t → Stands (Answers M b (explain s t)) bs → (L : List ℕ) × Stands (Reasoned M b (explain s t) L) bs
@@ -66,8 +70,12 @@ module _ {M : Matter} {b : Moment} {s t : ℕ} where
 
 -- A 06: where no pair is broken one field is right, and where one is, a list that begins with its number.
 module _ {M : Matter} {b : Moment} where
+  -- The reason of a broken pair, and its field.
+  pub told-broken : {L f : List ℕ} → Reasoned M b broken L f → (k : ℕ) × (f ≡ field 134 (numbers (k ∷ L))) × Earliest M.records b.records M.pairs b.differs k × PairReason M b k L
+  told-broken (breached {k = k} e r) = (k, refl, e, r)
+
   pub intact-right : {bs : List ℕ} → Unbroken M.records b.records M.pairs b.differs → Stands (Answers M b broken) bs → Begins bs (field 135 [])
-  intact-right n (stands (reasoned (breached e r) g) rest) = absurd (earliest-some e n)
+  intact-right n (stands (reasoned r g) rest) = absurd (earliest-some (told-broken r).2 n)
   intact-right n (stands (intact u) rest) = (rest, refl)
 
   -- Where a pair is broken, only a list can be right.
@@ -77,10 +85,11 @@ module _ {M : Matter} {b : Moment} where
 
   -- A list that stands there is the only one that can be right.
   pub breach-right : {bs L' : List ℕ} {k : ℕ} (L rest : List ℕ) → bs ≡ field 134 (numbers L) ++ rest → Earliest M.records b.records M.pairs b.differs k → Stands (Reasoned M b broken L') bs → (K : List ℕ) × (L ≡ k ∷ K) × PairReason M b k K
-  breach-right {k = k} L rest e h (stands (breached {k = k'} {L = L'} e' r) more) =
-      let q : k' ≡ k = earliest-one e' h in
-      let z : numbers (k' ∷ L') ≡ numbers L = (field-one 134 134 (numbers (k' ∷ L')) (numbers L) more rest e).1 in
-      rw (← q) (L', sym (numbers-one (k' ∷ L') L z), r)
+  breach-right {L' = L'} {k = k} L rest e h (stands r more) =
+      let o = told-broken r in
+      let q : o.0 ≡ k = earliest-one o.2 h in
+      let z : numbers (o.0 ∷ L') ≡ numbers L = (field-one 134 134 (numbers (o.0 ∷ L')) (numbers L) more rest (rw o.1 at e)).1 in
+      rw (← q) (L', sym (numbers-one (o.0 ∷ L') L z), o.3)
 
 pub totals-right : {M : Matter} {bs : List ℕ} {c i : ℕ} → Classes M.head.size (UpTo M.records (length M.records)) c → Idles M.records i → Stands (Totalled M) bs → Begins bs (field 143 (numbers (c ∷ i ∷ [])))
 totals-right {c = c} {i = i} h k (stands (total {c = c'} {i = i'} h' k') rest) =

@@ -1,5 +1,7 @@
 // The report's fields, read here and nowhere else: on this side it is the reader that unwraps Tag. The numbers of a reason
 // are reason_field's. Document 01, "The job and the report". Rests on meaning and report.
+#![tactic(auto)]
+
 ghost use Rattle.std.specs.Prelude.{◌≡◌, ◌↔◌, true, [], ◌∷◌, ℕ, ◌+◌, ◌*◌, ◌≤◌, ◌<◌, length};
 ghost use Rattle.report.specs.Report.{two, numbers, field};
 ghost use Rattle.report_read.specs.Read.{Holds, FrontAt};
@@ -8,7 +10,7 @@ use meaning::Tag;
 use report::{APART, LED, TOTALS};
 
 // The front of a field: its kind and the bytes of its body; or no whole field.
-#[derive(Drop)]
+#[derive(Clone, Copy)]
 pub enum Front {
     Field(u8, usize),
     Cut,

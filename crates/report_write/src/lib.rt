@@ -1,5 +1,7 @@
 // The report's fields, written here and nowhere else: on this side it is the writer that unwraps Tag. The numbers of a reason are
 // report_numbers'. Document 01, "The job and the report". Rests on meaning and report.
+#![tactic(auto)]
+
 ghost use Rattle.std.specs.Prelude.{◌≡◌, [], ◌∷◌, ℕ, ◌+◌, ◌*◌, ◌≤◌, ◌<◌, length};
 ghost use Rattle.report.specs.Report.{two, numbers, field, front, laid};
 

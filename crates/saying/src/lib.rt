@@ -1,5 +1,7 @@
 // What tagcheck says of a job, and that it is true: the run's answer, told in lines. Document 01, "The program". specs/Meant has what each line means.
 // Rests on haltzurme_own for the run and on text for the text.
+#![tactic(auto)]
+
 ghost use Rattle.saying.specs.Says.{True};
 
 use haltzurme_own::run_job;

@@ -1,19 +1,17 @@
 -- From what was read and written to what the call promises. Assumes nothing.
 use Prim.Native.Nat.{ℕ, ◌≤◌, ◌<◌}
 use native.Mathlib.Omega.{arith}
-use mathlib.Core.Path.{◌≡◌, refl, sym, ◌∙◌, ap, subst}
-use mathlib.Core.Logic.{◌≢◌, ◌⊎◌, inl, inr}
-use mathlib.Core.Bool.{Bool, true, false}
-use mathlib.Core.List.{List, [], ◌∷◌, ◌++◌}
+use mathlib.Core.Path.{◌≡◌, refl}
+use mathlib.Core.Logic.{◌≢◌}
+use mathlib.Core.Bool.{Bool, true}
+use mathlib.Core.List.{List, ◌++◌}
 use lib.ListN.{length, take, drop}
 use lib.Seq.{length-take-le}
 use Rattle.meaning.specs.Limits.{named_numbers, named_places}
 use Rattle.table_labels.specs.Parts.{Fills}
-use Rattle.call_look.specs.Clear.{Cleared}
 use Rattle.call_look.proofs.Clearing.{cleared-part}
 use Rattle.script_terms.specs.Terms.{Command}
-use Rattle.script_meaning.specs.Reading.{Got, fault, got, reading}
-use Rattle.script_meaning.specs.Bytes.{job_of}
+use Rattle.script_meaning.specs.Reading.{Got, got, reading}
 use Rattle.script_shelf.specs.declared.Counts.{Counts}
 use Rattle.script_steps.specs.Steps.{Outcome, refused, gave}
 use Rattle.script_read.specs.Script.{Whole, ScriptRead}

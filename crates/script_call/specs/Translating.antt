@@ -6,7 +6,7 @@ use Rattle.meaning.specs.Limits.{named_numbers, named_places}
 use Rattle.table_labels.specs.Parts.{Fills}
 use Rattle.call_look.specs.Clear.{Cleared}
 use Rattle.script_terms.specs.Terms.{Command}
-use Rattle.script_meaning.specs.Reading.{Got, fault, got, reading}
+use Rattle.script_meaning.specs.Reading.{fault, got, reading}
 use Rattle.script_meaning.specs.Bytes.{job_of}
 use Rattle.script_call.specs.declared.Translation.{Translation}
 

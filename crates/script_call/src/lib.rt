@@ -1,5 +1,7 @@
 // A script becomes a job, with no record table in sight: lengths are looked at, the script is read into the work table, the job is written, and the work table is given
 // back. Document 02, No. 4; document 01, "What is lent, and each refusal". Rests on script_read, script_write, table_labels and call_look.
+#![tactic(auto)]
+
 ghost use Rattle.std.specs.Prelude.{◌≡◌, true, ℕ, ◌≤◌};
 ghost use Rattle.script_call.specs.Translating.{Enough, Filled, Carried, Rested, Blank};
 
@@ -17,7 +19,7 @@ pub const PLACES: usize = meaning::NAMED_PLACES;
 pub const NAMED: usize = meaning::NAMED_NUMBERS;
 
 // What comes of a script: the number, its place, the length of the job; and whether the lengths were right, without which nothing lent changes.
-#[derive(Drop)]
+#[derive(Clone, Copy)]
 pub struct Translation {
     pub lent: bool,
     pub number: u8,

@@ -1,17 +1,15 @@
 -- What the readers of commands need of one another. Assumes nothing.
-use Prim.Native.Nat.{ℕ, suc, ◌+◌, ◌-◌, ◌≤◌, ◌<◌}
+use Prim.Native.Nat.{ℕ, suc, ◌+◌, ◌-◌, ◌≤◌}
 use native.Mathlib.Omega.{arith}
-use mathlib.Core.Path.{◌≡◌, refl, sym, ◌∙◌, ap, subst}
-use mathlib.Core.Logic.{◌≢◌}
-use mathlib.Core.Bool.{Bool, true, false, ◌&&◌}
-use mathlib.Core.List.{List, [], ◌∷◌, ◌++◌, append_assoc, append-nil}
+use mathlib.Core.Path.{◌≡◌, refl, subst}
+use mathlib.Core.Bool.{true, false, ◌&&◌}
+use mathlib.Core.List.{List}
 use lib.Dec.{leb, leb→le}
 use lib.ListN.{length}
 use Rattle.script_terms.specs.Flat.{Item}
 use Rattle.script_terms.proofs.Tests.{both_hold}
 use Rattle.script_meaning.specs.Tokens.{lex, next}
-use Rattle.script_meaning.specs.Reading.{Got, got, Seen, fits, Found, term_at, term, Sides, sides}
-use Rattle.script_shelf.specs.Shelf.{Holding}
+use Rattle.script_meaning.specs.Reading.{Got, Seen, Found, term_at, term, Sides}
 use Rattle.script_shelf.specs.declared.Counts.{Counts}
 use Rattle.script_heads.specs.Names.{Readable}
 use Rattle.script_join.specs.Promises.{Start, TermRead, refused as unread, found, Terms}

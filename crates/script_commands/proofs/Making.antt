@@ -1,21 +1,21 @@
 -- The readers of commands, by what the code has. Assumes nothing.
-use Prim.Native.Nat.{ℕ, suc, ◌+◌, ◌-◌, ◌≤◌, ◌<◌}
+use Prim.Native.Nat.{ℕ, suc, ◌≤◌}
 use native.Mathlib.Omega.{arith}
 use mathlib.Core.Path.{◌≡◌, refl, sym, ◌∙◌, ap, subst}
 use mathlib.Core.Logic.{◌≢◌}
-use mathlib.Core.Bool.{Bool, true, false}
+use mathlib.Core.Bool.{true}
 use mathlib.Core.List.{List, [], ◌∷◌, ◌++◌, append_assoc, append-nil}
 use lib.Dec.{eqb}
 use lib.ListN.{length}
 use lib.Seq.{slice, drop-length}
 use Rattle.meaning.specs.Following.{eq}
 use Rattle.script_terms.specs.Terms.{Command, declare, equal, differ, check}
-use Rattle.script_terms.specs.Flat.{Part, curry, Item, noted, differing, checking, own_of}
+use Rattle.script_terms.specs.Flat.{Part, Item, noted, differing, checking, own_of}
 use Rattle.script_terms.proofs.Tests.{eqb_yes, eqb_no}
 use Rattle.script_terms.proofs.Lists.{Grown, grown-on}
 use Rattle.script_terms.proofs.Known.{known_grown}
-use Rattle.script_meaning.specs.Tokens.{lex, next, is_word, text_of, core, reserved}
-use Rattle.script_meaning.specs.Reading.{Got, got, ◌>>=◌, must, either, want, is_opening, is_closing, Seen, fits, with_symbol, with_record, with_differ, with_check, Found, term, sort_is, sorts_at, new_name, Sides, sides, Done, done, declare_function, equality, negation, assertion, command}
+use Rattle.script_meaning.specs.Tokens.{lex, next, is_word, core, reserved}
+use Rattle.script_meaning.specs.Reading.{Got, want, Seen, fits, with_symbol, with_record, with_differ, with_check, Found, term, sort_is, sorts_at, sides, Done, done, declare_function, equality, negation, assertion, command}
 use Rattle.script_meaning.proofs.Laws.{tag-grown}
 use Rattle.script_shelf.specs.Shelf.{Holding}
 use Rattle.script_shelf.specs.declared.Counts.{Counts}
@@ -26,7 +26,7 @@ use Rattle.script_fields.proofs.Fields.{fitting-is}
 use Rattle.script_join.specs.Promises.{Start}
 use Rattle.script_join.proofs.Laws.{news-on}
 use Rattle.script_words.specs.Words.{known, Read}
-use Rattle.script_steps.specs.Steps.{Outcome, refused, gave, Passed, Wanted, SortRead, Numbered, Sorted, Fresh, NewNames}
+use Rattle.script_steps.specs.Steps.{Outcome, gave, Passed, Wanted, SortRead, Sorted, NewNames}
 use Rattle.script_steps.proofs.Outcomes.{then-refused, then-gave, must-yes, must-no, either-yes, either-no, out-map, out-place}
 use Rattle.script_steps.proofs.Stepping.{wanted-stop, wanted-then}
 use Rattle.script_commands.specs.Commands.{SideFound, SideRead, SidesFound, SidesRead, Made, Does, Finished, full, good}

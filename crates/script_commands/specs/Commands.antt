@@ -1,5 +1,5 @@
 -- What the readers of commands ask and answer. Assumes nothing.
-use Rattle.std.specs.Prelude.{ℕ, ◌+◌, ◌≤◌, ◌<◌, ◌≡◌, Bool, true, false, List, ◌++◌, length}
+use Rattle.std.specs.Prelude.{ℕ, ◌≤◌, ◌≡◌, true, false, List, ◌++◌, length}
 use Rattle.script_terms.specs.Flat.{Part, curry, Item, own_of}
 use Rattle.script_terms.proofs.Lists.{Grown}
 use Rattle.script_terms.proofs.Known.{Known}

@@ -1,5 +1,7 @@
 // The commands between declare-sort and exit. Document 02, No. 4: "declare-fun over it, assert of an equality of two terms or a negated one and check-sat". Rests on
 // script_steps, script_term_read, script_fields, script_names.
+#![tactic(auto)]
+
 ghost use Rattle.std.specs.Prelude.{◌≡◌, ℕ, ◌≤◌, ◌<◌, length};
 ghost use Rattle.std.proofs.Math.Seq.{slice};
 ghost use Rattle.script_terms.specs.Terms.{check};
@@ -14,7 +16,7 @@ use script_term_read::{Found, term};
 use script_words::read_at;
 
 // A refusal (14 to 16) and its place; or 0, and the place behind the command.
-#[derive(Drop)]
+#[derive(Clone, Copy)]
 pub struct Done {
     pub fault: u16,
     pub place: usize,
@@ -23,7 +25,7 @@ pub struct Done {
 }
 
 // Both terms of an equality by their numbers, and the place behind its closing parenthesis.
-#[derive(Drop)]
+#[derive(Clone, Copy)]
 struct Pair {
     fault: u16,
     place: usize,
@@ -185,7 +187,8 @@ fn assertion(script: &[u8], work: &mut [u16], counts: Counts, at: usize) -> Done
     if kind == script_words::EQUALS {
         return equality(script, work, counts, to);
     }
-    if kind == script_words::NOT {
+    let negated = kind == script_words::NOT;
+    if negated {
         return negation(script, work, counts, to);
     }
     refuse(14, from, counts)

@@ -1,12 +1,11 @@
 -- What holds when a field has been noted, and at the beginning. Assumes nothing.
-use Prim.Native.Nat.{ℕ, zero, suc, ◌+◌, ◌≤◌, ◌<◌}
+use Prim.Native.Nat.{ℕ, ◌+◌, ◌≤◌, ◌<◌}
 use native.Mathlib.Omega.{arith}
 use native.Mathlib.Numerals.{add-one}
 use mathlib.Core.Path.{◌≡◌, refl, sym, ◌∙◌, ap, subst}
-use mathlib.Core.Bool.{Bool, true, false, ◌&&◌}
+use mathlib.Core.Bool.{true, false}
 use mathlib.Core.List.{List, [], ◌∷◌, ◌++◌}
-use lib.Dec.{T, leb, leb→le, le→leb}
-use lib.ListN.{length, get_or, set, length-append, length-set}
+use lib.ListN.{length, set, length-append, length-set}
 use Rattle.meaning.specs.Following.{eq}
 use Rattle.script_terms.proofs.Tests.{leb_no, leb_yes, and_no}
 use Rattle.script_terms.specs.Flat.{Item, noted, differing, checking}

@@ -1,5 +1,5 @@
 -- What the stores of the commands keep. Assumes nothing.
-use Rattle.std.specs.Prelude.{ℕ, ◌+◌, ◌≤◌, ◌<◌, ◌≡◌, Bool, ◌&&◌, List, [], ◌∷◌, ◌++◌, leb, length}
+use Rattle.std.specs.Prelude.{ℕ, ◌+◌, ◌≡◌, Bool, ◌&&◌, List, [], ◌∷◌, ◌++◌, leb, length}
 use Rattle.script_terms.specs.Flat.{Item}
 use Rattle.script_meaning.specs.Reading.{Seen, nothing}
 use Rattle.script_shelf.specs.Shelf.{Holding}

@@ -1,4 +1,6 @@
 // The table before anything is read, the fields of the commands, and the limits of a job. Document 02, No. 4.
+#![tactic(auto)]
+
 ghost use Rattle.std.specs.Prelude.{◌≡◌, ℕ, ◌+◌, ◌≤◌, ◌<◌, length};
 ghost use Rattle.meaning.specs.Following.{eq};
 ghost use Rattle.script_terms.specs.Flat.{noted, differing, checking};

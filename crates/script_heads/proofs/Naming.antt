@@ -1,11 +1,10 @@
 -- Heads, by what the code has. Assumes nothing.
-use Prim.Native.Nat.{ℕ, ◌≤◌, ◌<◌}
+use Prim.Native.Nat.{ℕ}
 use native.Mathlib.Omega.{arith}
 use mathlib.Core.Path.{◌≡◌, sym, ◌∙◌, ap, subst}
 use mathlib.Core.Logic.{◌≢◌}
 use mathlib.Core.Bool.{Bool, true, false}
 use mathlib.Core.List.{List}
-use lib.ListN.{length}
 use Rattle.script_terms.proofs.Tests.{eqb_yes, eqb_no}
 use Rattle.script_meaning.specs.Reading.{is_there}
 use Rattle.script_shelf.specs.declared.Counts.{Counts}

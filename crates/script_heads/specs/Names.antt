@@ -1,5 +1,5 @@
 -- What the readers of names in terms promise. Assumes nothing.
-use Rattle.std.specs.Prelude.{ℕ, ◌+◌, ◌≤◌, ◌<◌, ◌≡◌, Bool, true, false, List, length}
+use Rattle.std.specs.Prelude.{ℕ, ◌≤◌, ◌<◌, ◌≡◌, true, false, List, length}
 use Rattle.script_terms.specs.Flat.{Item}
 use Rattle.script_meaning.specs.Tokens.{lex, next, text_of}
 use Rattle.script_meaning.specs.Reading.{Seen, find, is_there, takes_of, is_own}

@@ -1,4 +1,6 @@
 // The head of a term: a name of the script's own that is declared. Document 02, No. 4. Rests on script_names, script_words.
+#![tactic(auto)]
+
 ghost use Rattle.std.specs.Prelude.{◌≡◌, ℕ, ◌+◌, ◌≤◌, ◌<◌, length};
 ghost use Rattle.script_heads.specs.Names.{Readable, Heads};
 
@@ -7,7 +9,7 @@ use script_shelf::Counts;
 use script_words::read_at;
 
 // The head of a term: its symbol, its number of arguments, the place behind it; or a refusal and its place.
-#[derive(Drop)]
+#[derive(Clone, Copy)]
 pub struct Head {
     pub fault: u16,
     pub place: usize,

@@ -1,24 +1,22 @@
 -- Each return and each turn of the two readers that call each other, as a law: what is left to read answers for the whole. Assumes nothing.
-use Prim.Native.Nat.{ℕ, zero, suc, ◌+◌, ◌-◌, ◌≤◌, ◌<◌}
+use Prim.Native.Nat.{ℕ, zero, suc, ◌-◌, ◌≤◌, ◌<◌}
 use native.Mathlib.Omega.{arith}
 use mathlib.Core.Path.{◌≡◌, refl, sym, ◌∙◌, ap, subst}
 use mathlib.Core.Logic.{◌≢◌}
-use mathlib.Core.Bool.{Bool, true, false, cond, not, ◌&&◌, ◌||◌}
-use mathlib.Core.List.{List, [], ◌∷◌, ◌++◌, append-nil}
-use lib.Dec.{T, eqb, ltb, leb, leb→le, le→leb, ltb→lt, lt→ltb}
+use mathlib.Core.Bool.{Bool, true, false, ◌||◌}
+use mathlib.Core.List.{List, ◌++◌, append-nil}
+use lib.Dec.{eqb, ltb, leb}
 use lib.ListN.{length}
 use lib.Seq.{drop-length}
 use Rattle.script_terms.proofs.Tests.{leb_no, leb_yes}
 use Rattle.script_terms.specs.Terms.{Term, call, Args, none, count, snoc, constant}
-use Rattle.script_terms.specs.Flat.{Part, symbol, applied, curry, Item}
+use Rattle.script_terms.specs.Flat.{applied, curry, Item}
 use Rattle.script_meaning.specs.Tokens.{Lexeme, next, lex, text_of}
-use Rattle.script_meaning.specs.Reading.{Got, fault, got, ◌>>=◌, either, must, Seen, with_part, fits, is_opening, is_closing, is_own, is_there, find, takes_of, Found, partial, bare_at, term_at, arguments_at}
-use Rattle.script_terms.proofs.Lists.{Grown, grown-same}
+use Rattle.script_meaning.specs.Reading.{Got, fault, got, ◌>>=◌, either, must, Seen, with_part, fits, is_opening, is_closing, is_own, is_there, find, takes_of, Found, partial, term_at, arguments_at}
+use Rattle.script_terms.proofs.Lists.{grown-same}
 use Rattle.script_terms.proofs.Known.{Known, leaf, known_grown}
-use Rattle.script_meaning.proofs.Laws.{tag-grown}
-use Rattle.script_shelf.specs.Shelf.{number_of, Holding}
 use Rattle.script_shelf.specs.declared.Counts.{Counts}
-use Rattle.script_parts.specs.Meet.{new_parts, Met}
+use Rattle.script_parts.specs.Meet.{new_parts}
 use Rattle.script_join.specs.Promises.{Joined, Start, Wrote, TermRead, refused, found, Going}
 use Rattle.script_join.proofs.Laws.{curry-snoc, count-snoc, known_joined, wrote_on, met-wrote, partial-got, partial-fault}
 

@@ -1,26 +1,26 @@
 -- What the reader of terms rests on, besides its own loop. Assumes nothing.
-use Prim.Native.Nat.{ℕ, zero, suc, ◌+◌, ◌≤◌, ◌<◌}
+use Prim.Native.Nat.{ℕ, suc, ◌+◌, ◌≤◌}
 use native.Mathlib.Omega.{arith}
 use mathlib.Core.Path.{◌≡◌, refl, sym, ◌∙◌, ap, subst}
-use mathlib.Core.Bool.{Bool, true, false, cond, not, ◌&&◌, ◌||◌}
+use mathlib.Core.Bool.{Bool, true, false, ◌&&◌, ◌||◌}
 use mathlib.Core.List.Memᴰ
-use mathlib.Core.List.{List, [], ◌∷◌, ◌++◌, map, map-append, append_assoc, Memᴰ}
-use lib.Dec.{T, leb, leb→le, eqb}
+use mathlib.Core.List.{List, ◌++◌, map, map-append, append_assoc, Memᴰ}
+use lib.Dec.{leb, leb→le}
 use lib.ListN.{length, drop}
 use Rattle.script_terms.proofs.Tests.{map_same, both_hold}
 use Rattle.script_terms.specs.Terms.{Term, call, Args, none, more, count, snoc}
-use Rattle.script_terms.specs.Flat.{Part, symbol, applied, curry, spine, has, add, place, record_of, Item, noted}
+use Rattle.script_terms.specs.Flat.{Part, symbol, applied, curry, spine, add, place, record_of, Item, noted}
 use Rattle.script_meaning.specs.Tokens.{Lexeme, text_of}
-use Rattle.script_meaning.specs.Reading.{Got, fault, got, ◌>>=◌, either, must, Seen, with_part, fits, is_opening, is_own, is_there, takes_of, Found, partial, term_at}
-use Rattle.script_terms.proofs.Lists.{Grown, grown-on, grown-new, grown-in, add-in, add-grown, place_found}
+use Rattle.script_meaning.specs.Reading.{fault, got, ◌>>=◌, either, must, Seen, with_part, fits, is_opening, is_own, is_there, Found, partial, term_at}
+use Rattle.script_terms.proofs.Lists.{Grown, grown-on, grown-new, add-in, add-grown, place_found}
 use Rattle.script_terms.proofs.Known.{Known, node, known_grown}
 use Rattle.script_meaning.proofs.Laws.{tag-grown, place-below}
-use Rattle.script_shelf.specs.Shelf.{number_of, Stand, Standing, Holding}
+use Rattle.script_shelf.specs.Shelf.{number_of, Standing}
 use Rattle.script_shelf.specs.declared.Counts.{Counts}
 use Rattle.script_parts.specs.Meet.{new_parts, Meeting, Met, Meets}
 use Rattle.script_fields.specs.Fields.{fitting}
 use Rattle.script_fields.proofs.Fields.{fitting-is}
-use Rattle.script_join.specs.Promises.{Joined, Joins, Start, Wrote}
+use Rattle.script_join.specs.Promises.{Joins, Start, Wrote}
 
 -- One argument more is one application more.
 spine-snoc : (ts : Args) (p : Part) (x : Term) → spine (snoc ts x) p ≡ applied (spine ts p) (curry x)

@@ -1,9 +1,9 @@
 -- What the readers of terms, commands and scripts promise, over the table's state. Those of `join` are met; the others are checked for their types alone. Assumes nothing.
-use Rattle.std.specs.Prelude.{ℕ, zero, suc, ◌+◌, ◌-◌, ◌≤◌, ◌<◌, ◌≡◌, Bool, true, false, ◌||◌, List, [], ◌∷◌, ◌++◌, length}
+use Rattle.std.specs.Prelude.{ℕ, ◌-◌, ◌≤◌, ◌<◌, ◌≡◌, Bool, true, false, ◌||◌, List, [], ◌++◌, length}
 use Rattle.script_terms.specs.Terms.{Term, call, Args, none, count, Command}
 use Rattle.script_terms.specs.Flat.{Part, applied, curry, Item, new_items, own_of, items_from, parts_of}
 use Rattle.script_meaning.specs.Tokens.{Lexeme, next}
-use Rattle.script_meaning.specs.Reading.{Got, fault, got, Seen, with_part, fits, nothing, Found, term_at, arguments_at, Done, command, reading}
+use Rattle.script_meaning.specs.Reading.{Got, fault, got, Seen, with_part, fits, Found, term_at, arguments_at, command, reading}
 use Rattle.script_terms.proofs.Lists.{Grown}
 use Rattle.script_terms.proofs.Known.{Known}
 use Rattle.script_shelf.specs.Shelf.{number_of, Holding}

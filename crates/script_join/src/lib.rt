@@ -1,4 +1,6 @@
 // One argument more of a term that is being read. Document 02, No. 4.
+#![tactic(auto)]
+
 ghost use Rattle.std.specs.Prelude.{◌≡◌, ℕ, ◌≤◌};
 ghost use Rattle.script_parts.specs.Pairs.{Ready};
 ghost use Rattle.script_join.specs.Promises.{Joins};
@@ -8,7 +10,7 @@ use script_parts::meet;
 use script_shelf::Counts;
 
 // The part that a head and its argument make, and whether it passes no limit.
-#[derive(Drop)]
+#[derive(Clone, Copy)]
 pub struct Joined {
     pub within: bool,
     pub number: u16,

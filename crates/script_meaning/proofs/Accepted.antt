@@ -7,11 +7,11 @@ use mathlib.Core.Logic.{◌⊎◌, inl, inr}
 use mathlib.Core.Bool.{Bool, true, false, cond, not, ◌&&◌, ◌||◌}
 use mathlib.Core.List.{List, [], ◌∷◌, ◌++◌, map}
 use lib.Dec.{T, eqb, eqb→eq, leb, leb→le, nleb→lt}
-use lib.ListN.{length, get_or, get_or-append, length-append}
+use lib.ListN.{length, length-append}
 use Rattle.script_terms.specs.Terms.{Term, call, Args, none, more, constant, count, snoc, Among, first, later, Declared, Built, built}
-use Rattle.script_terms.specs.Flat.{Part, symbol, applied, curry, spine, has, add, met}
+use Rattle.script_terms.specs.Flat.{Part, symbol, applied, curry, spine, has, met}
 use Rattle.script_meaning.specs.Tokens.{Lexeme, next, lex, same_bytes, text_of}
-use Rattle.script_meaning.specs.Reading.{Got, fault, got, ◌>>=◌, must, either, Symbol, Seen, fits, with_part, find, is_there, takes_of, Found, bare_at, partial, term_at, arguments_at}
+use Rattle.script_meaning.specs.Reading.{Got, fault, got, ◌>>=◌, must, either, Symbol, Seen, with_part, find, is_there, takes_of, Found, bare_at, term_at, arguments_at}
 
 module _ {A B : Type 0} where
   pub bound : (g : Got A) (f : A → Got B) {b : B} → (g >>= f) ≡ got b → (a : A) × (g ≡ got a) × (f a ≡ got b)

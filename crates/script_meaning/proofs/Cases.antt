@@ -1,9 +1,8 @@
 -- The small scripts and what each gives, computed from the definitions: the same as the reference program says. Assumes nothing.
-use Prim.Native.Nat.{ℕ}
 use mathlib.Core.Path.{◌≡◌, refl}
-use mathlib.Core.List.{List, [], ◌∷◌}
+use mathlib.Core.List.{[], ◌∷◌}
 use Rattle.script_meaning.specs.Tokens.{reserved, core}
-use Rattle.script_meaning.specs.Reading.{Got, fault, got, ◌>>=◌, must, either, reading}
+use Rattle.script_meaning.specs.Reading.{fault, got, ◌>>=◌, must, either, reading}
 use Rattle.script_meaning.specs.Bytes.{translated, job_of}
 
 case-01-no-symbol : translated (40 ∷ 115 ∷ 101 ∷ 116 ∷ 45 ∷ 108 ∷ 111 ∷ 103 ∷ 105 ∷ 99 ∷ 32 ∷ 81 ∷ 70 ∷ 95 ∷ 85 ∷ 70 ∷ 41 ∷ 10 ∷ 40 ∷ 100 ∷ 101 ∷ 99 ∷ 108 ∷ 97 ∷ 114 ∷ 101 ∷ 45 ∷ 115 ∷ 111 ∷ 114 ∷ 116 ∷ 32 ∷ 85 ∷ 32 ∷ 48 ∷ 41 ∷ 10 ∷ 40 ∷ 101 ∷ 120 ∷ 105 ∷ 116 ∷ 41 ∷ 10 ∷ []) ≡ got (16 ∷ 0 ∷ 2 ∷ 0 ∷ 1 ∷ 127 ∷ 0 ∷ 0 ∷ [])

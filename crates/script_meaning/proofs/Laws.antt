@@ -1,26 +1,25 @@
 -- The laws that a reader of scripts rests on: a tag is of one part, and stays when more parts are met; tags and counts are within document 01's limits; and the
 -- promise at each check-sat, by the records before it. Assumes nothing.
-use Prim.Native.Nat.{ℕ, zero, suc, ◌+◌, ◌-◌, ◌<◌, ◌≤◌, max}
+use Prim.Native.Nat.{ℕ, suc, ◌+◌, ◌-◌, ◌<◌, ◌≤◌}
 use native.Mathlib.Omega.{arith}
 use mathlib.Core.Path.{◌≡◌, refl, sym, ◌∙◌, ap, subst}
 use mathlib.Core.Logic.{◌⊎◌, inl, inr, ◌↔◌}
 use mathlib.Core.Bool.{Bool, true, false, cond, ◌&&◌}
 use mathlib.Core.List.{List, [], ◌∷◌, ◌++◌, map, append_assoc, Memᴰ}
 use lib.Dec.{T, leb, leb→le}
-use lib.ListN.{length, get_or, drop, length-append, length-drop, length-map}
-use Rattle.meaning.specs.Following.{Rec, eq, app, Follows, UpTo}
+use lib.ListN.{length, drop, length-append, length-drop, length-map}
+use Rattle.meaning.specs.Following.{Follows, UpTo}
 use Rattle.meaning.proofs.Close.{more}
 use Rattle.meaning.proofs.Exact.{at_front, front_at}
 use Rattle.script_terms.specs.Terms.{Term, constant, Command, declare, equal, differ, check, arities_of, Asserted, equal-left, equal-right, differ-left, differ-right, Terms, Declared, equals_of, differs_of, checks_of}
-use Rattle.script_terms.specs.Flat.{Part, symbol, applied, same, curry, after, parts_from, place, tag_of, record_of, records_of, new_items, own_of, items_from, parts_of, symbols_of, tags_of, items_of}
-use Rattle.script_meaning.specs.Reading.{Got, got, fits, nothing, reading}
+use Rattle.script_terms.specs.Flat.{Part, same, after, parts_from, place, tag_of, record_of, records_of, own_of, items_from, parts_of, symbols_of, tags_of, items_of}
+use Rattle.script_meaning.specs.Reading.{got, reading}
 use Rattle.script_terms.specs.Promise.{Everywhere}
-use Rattle.script_terms.proofs.Lists.{same-one, same_self, Grown, grown-in}
+use Rattle.script_terms.proofs.Lists.{same_self, Grown}
 use Rattle.script_terms.proofs.Known.{Known, leaf, node, name_of, known-named}
-use Rattle.script_terms.proofs.Script.{Whole, mem_whole, whole_mem, records-append, records-of, after-grown, parts-grown}
+use Rattle.script_terms.proofs.Script.{mem_whole, whole_mem, records-of, after-grown, parts-grown}
 use Rattle.script_terms.proofs.Promise.{terms-follow}
-use Rattle.script_meaning.proofs.Accepted.{taking}
-use Rattle.script_meaning.proofs.Said.{Said, reading-said}
+use Rattle.script_meaning.proofs.Said.{reading-said}
 
 -- Two parts with one tag are one: so a part may be looked up by the tags of its halves.
 pub tag_one : {S : ℕ} {l : List Part} {p q : Part} → Known S l p → Known S l q → tag_of S l p ≡ tag_of S l q → p ≡ q

@@ -1,22 +1,20 @@
 -- What an accepted script says, command by command: its terms are built of the symbols declared before them, and its job is within document 01's limits. So the
 -- promise holds of every script that is accepted. Assumes nothing.
-use Prim.Native.Nat.{ℕ, zero, suc, ◌+◌, ◌-◌, ◌<◌, ◌≤◌, max}
+use Prim.Native.Nat.{ℕ, zero, suc, ◌+◌}
 use native.Mathlib.Omega.{arith}
 use mathlib.Core.Path.{◌≡◌, refl, sym, ◌∙◌, ap, subst}
 use mathlib.Core.Logic.{◌⊎◌, inl, inr}
-use mathlib.Core.Bool.{Bool, true, false, ◌&&◌}
+use mathlib.Core.Bool.{false}
 use mathlib.Core.List.Memᴰ
-use mathlib.Core.List.{List, [], ◌∷◌, ◌++◌, map, append_assoc, append-nil, Memᴰ}
-use lib.Dec.{T, leb, leb→le}
-use lib.ListN.{length, get_or, drop, get_or-append, length-append, length-drop, length-map}
-use Rattle.script_terms.specs.Terms.{Term, call, Args, Among, Command, declare, equal, differ, check, arities_of, Asserted, equal-left, equal-right, differ-left, differ-right, Declared, Built, built, equals_of, differs_of, checks_of}
-use Rattle.script_terms.specs.Flat.{Part, curry, met, after, parts_from, record_of, records_of, own_of, items_from, parts_of, symbols_of, tags_of, items_of}
-use Rattle.script_meaning.specs.Tokens.{Lexeme, next, lex, text_of}
-use Rattle.script_meaning.specs.Reading.{Got, fault, got, ◌>>=◌, Symbol, Seen, fits, with_symbol, with_record, with_differ, with_check, Done, done, Sides, sides, declare_function, assertion, command, commands_at, nothing, reading}
+use mathlib.Core.List.{List, [], ◌∷◌, ◌++◌, append_assoc, append-nil}
+use lib.Dec.{T}
+use lib.ListN.{length, get_or-append, length-append}
+use Rattle.script_terms.specs.Terms.{Term, Command, declare, equal, differ, check, arities_of, Asserted, equal-left, equal-right, differ-left, differ-right, Declared, Built, built, equals_of, differs_of, checks_of}
+use Rattle.script_terms.specs.Flat.{curry, met, after, parts_from}
+use Rattle.script_meaning.specs.Tokens.{next, lex, text_of}
+use Rattle.script_meaning.specs.Reading.{got, Symbol, Seen, fits, with_symbol, with_record, with_differ, with_check, Done, done, Sides, sides, declare_function, assertion, command, commands_at, nothing, reading}
 use Rattle.script_terms.specs.Promise.{Promised}
-use Rattle.script_terms.proofs.Script.{records-of, after-grown, parts-grown}
-use Rattle.script_terms.proofs.Lists.{Grown}
-use Rattle.script_meaning.proofs.Accepted.{bound, held, split, got-one, taking, Kept, Fine, term-fine}
+use Rattle.script_meaning.proofs.Accepted.{bound, held, split, got-one, taking, Kept, term-fine}
 use Rattle.script_terms.proofs.Promise.{promise-all}
 
 -- More declarations spoil no term.

@@ -1,22 +1,22 @@
 -- While a script is read the number of its symbols is not known, and a compound part is numbered from 1,001. What is kept then becomes the job's fields by one shift.
 -- Assumes nothing.
-use Prim.Native.Nat.{ℕ, zero, suc, ◌+◌, ◌-◌, ◌<◌, ◌≤◌}
+use Prim.Native.Nat.{ℕ, ◌+◌, ◌-◌, ◌<◌, ◌≤◌}
 use native.Mathlib.Omega.{arith}
-use mathlib.Core.Path.{◌≡◌, refl, sym, ◌∙◌, ap, ap₂}
+use mathlib.Core.Path.{◌≡◌, refl, ◌∙◌, ap, ap₂}
 use mathlib.Core.Bool.{Bool, true, false, cond}
 use mathlib.Core.List.{List, [], ◌∷◌, ◌++◌, map, Memᴰ}
 use lib.Dec.{T, ltb, ltb→lt, lt→ltb}
 use lib.ListN.{length, drop}
 use Rattle.meaning.specs.Following.{Rec, eq, app}
-use Rattle.script_terms.specs.Terms.{Term, Command, declare, equal, differ, check, arities_of, Asserted, equal-left, equal-right, differ-left, differ-right, Terms}
-use Rattle.script_terms.specs.Flat.{Part, symbol, applied, curry, after, parts_from, place, tag_of, record_of, Item, noted, differing, checking, new_items, own_of, items_from, parts_of, symbols_of, items_of}
-use Rattle.script_meaning.specs.Reading.{Got, got, reading}
-use Rattle.script_terms.proofs.Lists.{grown-same, grown-in, new_in}
+use Rattle.script_terms.specs.Terms.{Term, Command, declare, equal, differ, check, Asserted, equal-left, equal-right, differ-left, differ-right}
+use Rattle.script_terms.specs.Flat.{Part, applied, curry, after, parts_from, place, tag_of, record_of, Item, noted, differing, checking, new_items, own_of, items_from, parts_of, symbols_of, items_of}
+use Rattle.script_meaning.specs.Reading.{got, reading}
+use Rattle.script_terms.proofs.Lists.{grown-in, new_in}
 use Rattle.script_terms.proofs.Known.{Known, leaf, node, Entry, entry, filed-none}
 use Rattle.script_terms.proofs.Script.{after-grown, parts-grown}
 use Rattle.script_terms.proofs.Promise.{asserted-behind, asserted-known, parts-filed, all-terms}
 use Rattle.script_meaning.proofs.Said.{reading-built}
-use Rattle.script_meaning.proofs.Laws.{Limits, reading-limits}
+use Rattle.script_meaning.proofs.Laws.{reading-limits}
 
 abbrev pub shift : ℕ → ℕ → ℕ
 shift S p = cond (ltb p 1001) p (p - 1001 + S)

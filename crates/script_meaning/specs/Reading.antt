@@ -1,8 +1,7 @@
 -- DEFINITIONS, to be read against document 02, No. 4: what a script says, or by which number and at which token it is refused. The script is read front to
 -- back, one token at a time, and the first token at fault decides; at one token the tests stand in the order 14, 15, 16. Assumes nothing.
 use Rattle.std.specs.Prelude.{ℕ, zero, suc, ◌+◌, Bool, true, false, cond, not, ◌&&◌, ◌||◌, List, [], ◌∷◌, ◌++◌, eqb, ltb, leb, length}
-use Prim.Native.String.{String}
-use Rattle.script_terms.specs.Terms.{Term, call, Args, none, more, constant, count, snoc, Command, declare, equal, differ, check}
+use Rattle.script_terms.specs.Terms.{Term, call, Args, none, constant, count, snoc, Command, declare, equal, differ, check}
 use Rattle.script_terms.specs.Flat.{Part, curry, has, add}
 use Rattle.script_meaning.specs.Tokens.{Token, opening, closing, word, other, ended, Lexeme, next, lex, same_bytes, listed, core, is_simple, is_word, text_of, bytes}
 

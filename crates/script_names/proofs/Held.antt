@@ -1,18 +1,16 @@
 -- Symbols that the table holds. Assumes nothing.
 use Prim.Native.Nat.{ℕ, zero, suc, ◌+◌, ◌-◌, ◌≤◌, ◌<◌}
 use native.Mathlib.Omega.{arith}
-use native.Mathlib.Decide.{ℕ_discrete}
 use mathlib.Core.Path.{◌≡◌, refl, sym, ◌∙◌, ap, subst}
 use mathlib.Core.Logic.{◌≢◌}
-use mathlib.Core.Bool.{Bool, true, false}
+use mathlib.Core.Bool.{true, false}
 use mathlib.Core.List.{List, [], ◌∷◌, ◌++◌, map, map-append}
 use lib.Dec.{T}
-use lib.ListN.{length, get_or, set, length-map, length-append, length-set, get_or-map, get_or-append}
-use lib.Seq.{slice, get_or-append_seam}
+use lib.ListN.{length, get_or, length-map, length-append, length-set}
+use lib.Seq.{slice}
 use Rattle.script_terms.specs.Flat.{Item}
 use Rattle.script_meaning.specs.Tokens.{same_bytes}
-use Rattle.script_meaning.specs.Reading.{Symbol, Seen, with_symbol, is_there}
-use Rattle.script_shelf.specs.Chain.{last_of}
+use Rattle.script_meaning.specs.Reading.{Symbol, Seen, is_there}
 use Rattle.script_shelf.proofs.Chains.{last-most}
 use Rattle.script_shelf.specs.Columns.{Laid, mark_in}
 use Rattle.script_shelf.specs.Keys.{last_with, heads, Chain}

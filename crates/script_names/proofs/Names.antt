@@ -1,14 +1,13 @@
 -- The search for a symbol by its name. Assumes nothing.
-use Prim.Native.Nat.{ℕ, zero, suc, ◌+◌, ◌-◌, ◌≤◌, ◌<◌}
+use Prim.Native.Nat.{ℕ, ◌+◌, ◌-◌, ◌≤◌, ◌<◌}
 use native.Mathlib.Omega.{arith}
-use mathlib.Core.Path.{◌≡◌, refl, sym, ◌∙◌, ap, subst}
+use mathlib.Core.Path.{◌≡◌, sym, ◌∙◌, ap, subst}
 use mathlib.Core.Logic.{◌≢◌}
 use mathlib.Core.Bool.{Bool, true, false}
 use mathlib.Core.List.{List}
 use lib.Dec.{T}
 use lib.ListN.{length, get_or}
 use lib.Seq.{slice}
-use Rattle.script_meaning.specs.Tokens.{same_bytes}
 use Rattle.script_shelf.specs.Shelf.{sum}
 use Rattle.script_shelf.proofs.Seeking.{Seeking, seek-start, seek-on, seek_hit, seek-falls, seek-none}
 use Rattle.script_names.specs.Names.{key_in, fitting, name_in, Shelved}

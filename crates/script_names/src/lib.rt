@@ -1,4 +1,6 @@
 // Declared symbols: looked up by their names, which stand in the script itself, and declared. Document 02, No. 4.
+#![tactic(auto)]
+
 ghost use Rattle.std.specs.Prelude.{◌≡◌, ℕ, ◌+◌, ◌≤◌, ◌<◌, length, get_or};
 ghost use Rattle.std.proofs.Math.Seq.{slice};
 ghost use Rattle.script_meaning.specs.Tokens.{same_bytes};
@@ -8,7 +10,7 @@ ghost use Rattle.script_names.specs.Names.{fitting, name_in, Shelved, Ready, Loo
 use script_shelf::{Counts, cell, mark, wide};
 
 // A symbol's number and its number of arguments, if it is there.
-#[derive(Drop)]
+#[derive(Clone, Copy)]
 pub struct Looked {
     pub there: bool,
     pub number: u16,

@@ -1,23 +1,20 @@
 -- What holds when a part has been met. Assumes nothing.
-use Prim.Native.Nat.{ℕ, zero, suc, ◌+◌, ◌-◌, ◌*◌, ◌%◌, ◌≤◌, ◌<◌}
+use Prim.Native.Nat.{ℕ, zero, suc, ◌+◌, ◌-◌, ◌≤◌, ◌<◌}
 use native.Mathlib.Omega.{arith}
 use mathlib.Core.Path.{◌≡◌, refl, sym, ◌∙◌, ap, subst}
 use mathlib.Core.Logic.{◌≢◌}
-use mathlib.Core.Bool.{Bool, true, false, cond}
+use mathlib.Core.Bool.{Bool, true, false}
 use mathlib.Core.List.{List, [], ◌∷◌, ◌++◌, map, append-nil}
-use lib.Dec.{T}
-use lib.ListN.{length, get_or, set, drop, length-map, length-append, length-set, get_or-map}
+use lib.ListN.{length, get_or, length-map, length-append, length-set}
 use lib.Seq.{drop-length, drop-append_seam}
 use Rattle.meaning.specs.Following.{app}
-use Rattle.script_terms.specs.Flat.{Part, symbol, applied, has, add, place, Item, noted, record_of}
+use Rattle.script_terms.specs.Flat.{Part, applied, has, place, Item, noted, record_of}
 use Rattle.script_meaning.specs.Reading.{Seen, with_part}
-use Rattle.script_terms.proofs.Known.{Known}
 use Rattle.script_meaning.proofs.Laws.{tag-grown}
-use Rattle.script_shelf.specs.Chain.{last_of}
 use Rattle.script_shelf.proofs.Chains.{last-most}
 use Rattle.script_shelf.specs.Columns.{Laid, note_in, file_in}
-use Rattle.script_shelf.specs.Keys.{last_with, links, heads, Chain}
-use Rattle.script_shelf.specs.Shelf.{Halves, number_of, halves_of, pair_key, columns, Counted, Holding}
+use Rattle.script_shelf.specs.Keys.{last_with, heads, Chain}
+use Rattle.script_shelf.specs.Shelf.{Halves, number_of, halves_of, pair_key, columns, Holding}
 use Rattle.script_shelf.specs.declared.Counts.{Counts}
 use Rattle.script_shelf.proofs.Keys.{head_at, length-links, length-heads}
 use Rattle.script_shelf.proofs.Pushes.{note-laid, file-laid}

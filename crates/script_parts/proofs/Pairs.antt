@@ -1,15 +1,13 @@
 -- The search for a part by its halves. Assumes nothing.
-use Prim.Native.Nat.{ℕ, zero, suc, ◌+◌, ◌-◌, ◌≤◌, ◌<◌}
+use Prim.Native.Nat.{ℕ, ◌+◌, ◌-◌, ◌≤◌, ◌<◌}
 use native.Mathlib.Omega.{arith}
-use mathlib.Core.Path.{◌≡◌, refl, sym, ◌∙◌, ap, subst}
+use mathlib.Core.Path.{◌≡◌, sym, ◌∙◌}
 use mathlib.Core.Logic.{◌≢◌}
-use mathlib.Core.Bool.{Bool, true, false, ◌&&◌}
+use mathlib.Core.Bool.{Bool, true, false}
 use mathlib.Core.List.{List}
 use lib.Dec.{T, eqb, eqb→eq, eqb_refl}
-use lib.ListN.{length, get_or}
+use lib.ListN.{get_or}
 use Rattle.script_terms.proofs.Tests.{both, and}
-use Rattle.script_shelf.specs.Chain.{last_of}
-use Rattle.script_shelf.proofs.Chains.{last-most}
 use Rattle.script_shelf.proofs.Seeking.{Seeking, seek-start, seek-on, seek_hit, seek-falls, seek-none}
 use Rattle.script_parts.specs.Pairs.{left, right, key_of, key_in, fitting, pair_in, Shelved, Held}
 

@@ -1,9 +1,9 @@
 -- Parts by their numbers: a part is there exactly if its halves' numbers are, and one more part moves none. Assumes nothing.
-use Prim.Native.Nat.{ℕ, zero, suc, ◌+◌, ◌≤◌, ◌<◌}
+use Prim.Native.Nat.{ℕ, zero, suc, ◌<◌}
 use native.Mathlib.Omega.{arith}
 use native.Mathlib.Decide.{ℕ_discrete}
 use mathlib.Core.Path.{◌≡◌, refl, sym, ◌∙◌, ap, subst}
-use mathlib.Core.Logic.{◌⊎◌, inl, inr, ◌≢◌}
+use mathlib.Core.Logic.{◌⊎◌, inl, inr}
 use mathlib.Core.Bool.{Bool, true, false, cond, ◌||◌}
 use mathlib.Core.List.Memᴰ
 use mathlib.Core.List.{List, [], ◌∷◌, ◌++◌, map, map-append, Memᴰ}
@@ -11,7 +11,7 @@ use lib.Dec.{T}
 use lib.ListN.{length, get_or, length-append, get_or-append, get_or-map}
 use lib.Seq.{get_or-append_seam}
 use Rattle.script_terms.proofs.Tests.{map_same}
-use Rattle.script_terms.specs.Flat.{Part, symbol, applied, same, has, add, place}
+use Rattle.script_terms.specs.Flat.{Part, symbol, applied, same, has, place}
 use Rattle.script_terms.proofs.Lists.{Grown, same_self, place_found, add-in}
 use Rattle.script_terms.proofs.Known.{Known, node, known_grown}
 use Rattle.script_meaning.proofs.Laws.{tag_one, tag-grown, place-below}

@@ -1,5 +1,5 @@
 -- What meeting a part asks and gives. Assumes nothing.
-use Rattle.std.specs.Prelude.{ℕ, ◌+◌, ◌≤◌, ◌≡◌, List, ◌++◌, map, length, drop}
+use Rattle.std.specs.Prelude.{ℕ, ◌≤◌, ◌≡◌, List, ◌++◌, map, length, drop}
 use Rattle.script_terms.specs.Flat.{Part, applied, record_of, Item, noted}
 use Rattle.script_meaning.specs.Reading.{Seen, with_part}
 use Rattle.script_terms.proofs.Known.{Known}

@@ -1,5 +1,5 @@
 -- Parts in the table by the numbers of their halves. Assumes nothing.
-use Rattle.std.specs.Prelude.{ℕ, ◌+◌, ◌*◌, ◌%◌, ◌≤◌, ◌<◌, ◌≡◌, Bool, true, false, ◌&&◌, List, T, eqb, length, get_or}
+use Rattle.std.specs.Prelude.{ℕ, ◌+◌, ◌*◌, ◌%◌, ◌≤◌, ◌≡◌, Bool, true, false, ◌&&◌, List, T, eqb, length, get_or}
 use Rattle.script_shelf.specs.Chain.{last_of}
 use Rattle.script_shelf.specs.Columns.{note_in, file_in}
 use Rattle.script_shelf.specs.Keys.{Chain}

@@ -1,4 +1,6 @@
 // A part is met: it is found by its halves' numbers, or filed, and its field is noted. Document 02, No. 4: "one for each distinct compound part".
+#![tactic(auto)]
+
 ghost use Rattle.std.specs.Prelude.{◌≡◌, ℕ, ◌+◌, ◌≤◌, ◌<◌, length};
 ghost use Rattle.script_parts.specs.Pairs.{key_of, pair_in, Shelved, Held, Ready, Put};
 ghost use Rattle.script_parts.specs.Meet.{Meets};
@@ -6,7 +8,7 @@ ghost use Rattle.script_parts.specs.Meet.{Meets};
 use script_shelf::{Counts, cell, file, note, wide};
 
 // A part's number, and the counts with it.
-#[derive(Drop)]
+#[derive(Clone, Copy)]
 pub struct Numbered {
     pub number: u16,
     pub counts: Counts,

@@ -1,22 +1,22 @@
 -- The two commands in front, and the script's end, by what the code has. Assumes nothing.
-use Prim.Native.Nat.{ℕ, suc, ◌+◌, ◌-◌, ◌≤◌, ◌<◌}
+use Prim.Native.Nat.{ℕ, ◌-◌, ◌≤◌, ◌<◌}
 use native.Mathlib.Omega.{arith}
 use native.Mathlib.Decide.{ℕ_discrete}
 use mathlib.Core.Path.{◌≡◌, refl, sym, ◌∙◌, ap, subst}
 use mathlib.Core.Logic.{◌≢◌}
-use mathlib.Core.Bool.{Bool, true, false, not, ◌&&◌}
-use mathlib.Core.List.{List, [], ◌∷◌}
-use lib.Dec.{T, eqb, leb}
-use lib.ListN.{length, get_or}
+use mathlib.Core.Bool.{Bool, true, false, not}
+use mathlib.Core.List.{List, []}
+use lib.Dec.{T, leb}
+use lib.ListN.{length}
 use lib.Seq.{slice, length-slice}
 use Rattle.script_terms.specs.Terms.{Command}
 use Rattle.script_terms.proofs.Tests.{is_false, and_no, eqb_yes, eqb_no, leb_yes, leb_no}
 use Rattle.script_meaning.specs.Tokens.{bytes, same_bytes, reserved, core, Token, opening, closing, word, other, ended, Lexeme, lex, next, is_simple, is_word, text_of}
-use Rattle.script_meaning.specs.Reading.{Got, fault, got, ◌>>=◌, must, want, is_opening, is_closing, is_ended, new_name, leave}
+use Rattle.script_meaning.specs.Reading.{Got, fault, got, ◌>>=◌, must, want, is_opening, is_closing, is_ended, new_name}
 use Rattle.script_meaning.proofs.Matching.{bytes_one}
-use Rattle.script_words.specs.Words.{known, word_at, Says, Read}
-use Rattle.script_steps.specs.Steps.{Outcome, refused, gave, asked, Passed, Wanted}
-use Rattle.script_steps.proofs.Outcomes.{then-refused, then-gave, must-yes, must-no, out-place}
+use Rattle.script_words.specs.Words.{known, word_at, Read}
+use Rattle.script_steps.specs.Steps.{Outcome, refused, gave, Passed, Wanted}
+use Rattle.script_steps.proofs.Outcomes.{then-refused, then-gave, must-yes, must-no}
 use Rattle.script_steps.proofs.Stepping.{wanted-stop, wanted-then, wanted-on}
 use Rattle.script_read.specs.Script.{set_logic, declare_sort, LogicRead, LogicSet, no-logic-set, logic-set, SortFresh, SortNamed, SortSet, no-sort-set, sort-set, Left}
 

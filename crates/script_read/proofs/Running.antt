@@ -1,5 +1,5 @@
 -- The loop over the commands: what is left to read answers for the whole, and the fields so far are those of the commands so far. Assumes nothing.
-use Prim.Native.Nat.{ℕ, zero, suc, ◌+◌, ◌-◌, ◌≤◌, ◌<◌}
+use Prim.Native.Nat.{ℕ, zero, suc, ◌-◌, ◌≤◌, ◌<◌}
 use native.Mathlib.Omega.{arith}
 use mathlib.Core.Path.{◌≡◌, refl, sym, ◌∙◌, ap, subst}
 use mathlib.Core.Logic.{◌≢◌}
@@ -15,8 +15,8 @@ use Rattle.script_terms.proofs.Tests.{eqb_yes, eqb_no, map_same}
 use Rattle.script_terms.proofs.Lists.{Grown, grown-same, grown-on, grown-new, place_found}
 use Rattle.script_terms.proofs.Known.{Known, node}
 use Rattle.script_terms.proofs.Script.{after-grown}
-use Rattle.script_meaning.specs.Tokens.{lex, next, is_word, core, reserved}
-use Rattle.script_meaning.specs.Reading.{Got, fault, got, ◌>>=◌, must, either, want, is_opening, Seen, Done, command, leave, commands_at, nothing, reading}
+use Rattle.script_meaning.specs.Tokens.{lex, is_word, core, reserved}
+use Rattle.script_meaning.specs.Reading.{Got, fault, got, ◌>>=◌, either, Seen, Done, command, leave, commands_at, nothing, reading}
 use Rattle.script_meaning.proofs.Accepted.{taking}
 use Rattle.script_meaning.proofs.Said.{command-stepped}
 use Rattle.script_meaning.proofs.Laws.{tag-grown, place-below}
@@ -26,9 +26,9 @@ use Rattle.script_parts.specs.Meet.{new_parts}
 use Rattle.script_fields.specs.Fields.{Begun}
 use Rattle.script_join.specs.Promises.{Start}
 use Rattle.script_words.specs.Words.{known, Read}
-use Rattle.script_steps.specs.Steps.{Outcome, refused, gave, asked, Passed, Wanted}
+use Rattle.script_steps.specs.Steps.{Outcome, refused, gave, Passed, Wanted}
 use Rattle.script_commands.specs.Commands.{CommandAsk, Made, Does}
-use Rattle.script_read.specs.Script.{set_logic, declare_sort, LogicSet, no-logic-set, logic-set, SortSet, no-sort-set, sort-set, Left, CommandsAsk, Whole, CommandsRead, ScriptRead}
+use Rattle.script_read.specs.Script.{set_logic, declare_sort, LogicSet, no-logic-set, logic-set, SortSet, no-sort-set, sort-set, Left, CommandsAsk, CommandsRead, ScriptRead}
 use Rattle.script_read.proofs.Opening.{stop-at, range-of, go_on}
 
 -- One command more behind those that there are.

@@ -1,10 +1,10 @@
 -- What the readers of a whole script ask and answer. Assumes nothing.
-use Rattle.std.specs.Prelude.{ℕ, suc, ◌-◌, ◌≤◌, ◌<◌, ◌≡◌, Bool, true, false, List, [], ◌∷◌, length}
+use Rattle.std.specs.Prelude.{ℕ, suc, ◌≤◌, ◌<◌, ◌≡◌, List, [], length}
 use Rattle.std.proofs.Math.Seq.{slice}
 use Rattle.script_terms.specs.Terms.{Command, arities_of}
 use Rattle.script_terms.specs.Flat.{items_from, parts_of}
-use Rattle.script_meaning.specs.Tokens.{Lexeme, lex, next, bytes, same_bytes, is_word, text_of}
-use Rattle.script_meaning.specs.Reading.{Got, fault, got, ◌>>=◌, want, is_opening, is_closing, is_ended, Seen, new_name, leave, commands_at, nothing, reading}
+use Rattle.script_meaning.specs.Tokens.{Lexeme, next, bytes, same_bytes, is_word, text_of}
+use Rattle.script_meaning.specs.Reading.{Got, fault, ◌>>=◌, want, is_opening, is_closing, Seen, new_name, leave, commands_at, nothing, reading}
 use Rattle.script_meaning.proofs.Accepted.{taking}
 use Rattle.script_shelf.specs.declared.Counts.{Counts}
 use Rattle.script_join.specs.Promises.{Start}

@@ -1,5 +1,7 @@
 // The whole script into the work table. Document 02, No. 4: "set-logic QF_UF, one declare-sort of arity 0, then in any order .. then exit, last". Rests on
 // script_commands, script_steps, script_fields.
+#![tactic(auto)]
+
 ghost use Rattle.std.specs.Prelude.{◌≡◌, ℕ, ◌≤◌, ◌<◌, length};
 ghost use Rattle.std.proofs.Math.Seq.{slice};
 ghost use Rattle.script_read.specs.Script.{LogicRead, SortNamed, LogicSet, SortSet, Left, CommandsAsk, CommandsRead, ScriptRead};
@@ -11,7 +13,7 @@ use script_steps::{Step, want};
 use script_words::{is_word, read_at};
 
 // The declared sort's name stands between `first` and `last`.
-#[derive(Drop)]
+#[derive(Clone, Copy)]
 pub struct Sort {
     pub fault: u16,
     pub place: usize,
@@ -21,7 +23,7 @@ pub struct Sort {
 }
 
 // A refusal (14 to 16) and its place; or 0, and what the table holds is counted.
-#[derive(Drop)]
+#[derive(Clone, Copy)]
 pub struct Script {
     pub fault: u16,
     pub place: usize,

@@ -1,16 +1,15 @@
 -- One more thing is filed: its link is what its key's head was, and it becomes the head. Assumes nothing.
 use Prim.Native.Nat.{ℕ, zero, suc, ◌+◌, ◌≤◌, ◌<◌}
 use native.Mathlib.Omega.{arith}
-use native.Mathlib.Decide.{ℕ_discrete}
 use mathlib.Core.Path.{◌≡◌, refl, sym, ◌∙◌, ap, subst}
 use mathlib.Core.Logic.{◌≢◌}
-use mathlib.Core.Bool.{Bool, true, false, cond}
+use mathlib.Core.Bool.{Bool}
 use mathlib.Core.List.{List, [], ◌∷◌, ◌++◌}
 use lib.Dec.{T, eqb, eqb→eq, eqb_refl}
 use lib.ListN.{length, get_or, set, length-append, get_or-append}
 use lib.Seq.{get_or-append_seam}
 use Rattle.script_shelf.specs.Chain.{last_of}
-use Rattle.script_shelf.proofs.Chains.{last-most, last-fail, last-hit}
+use Rattle.script_shelf.proofs.Chains.{last-fail, last-hit}
 use Rattle.script_shelf.specs.Columns.{up_to}
 use Rattle.script_shelf.specs.Keys.{last_with, links, heads}
 use Rattle.script_shelf.proofs.Columns.{up_same, up_more, up-put, length_up, get_or-up}

@@ -1,9 +1,9 @@
 -- The columns after one more field, part or symbol. Assumes nothing.
-use Prim.Native.Nat.{ℕ, zero, suc, ◌+◌, ◌≤◌, ◌<◌}
+use Prim.Native.Nat.{ℕ, suc, ◌+◌, ◌<◌}
 use native.Mathlib.Omega.{arith}
-use mathlib.Core.Path.{◌≡◌, refl, sym, ◌∙◌, ap, subst}
+use mathlib.Core.Path.{◌≡◌, sym, ◌∙◌, ap, subst}
 use mathlib.Core.List.{List, [], ◌∷◌, ◌++◌, map, map-append}
-use lib.ListN.{length, get_or, set, length-map}
+use lib.ListN.{length, set, length-map}
 use Rattle.script_terms.specs.Flat.{Item}
 use Rattle.script_shelf.specs.Columns.{start_of, column, Laid, note_in, file_in, mark_in}
 use Rattle.script_shelf.specs.Keys.{last_with, links, heads}

@@ -1,5 +1,5 @@
 -- The work table while a script is read, and what it holds of what has been read. Assumes nothing.
-use Rattle.std.specs.Prelude.{ℕ, zero, suc, ◌+◌, ◌*◌, ◌%◌, ◌≤◌, ◌<◌, ◌≡◌, List, [], ◌∷◌, ◌++◌, map, length, get_or}
+use Rattle.std.specs.Prelude.{ℕ, ◌+◌, ◌*◌, ◌%◌, ◌≤◌, ◌<◌, ◌≡◌, List, [], ◌∷◌, map, length, get_or}
 use Rattle.std.proofs.Math.Seq.{slice}
 use Rattle.meaning.specs.Following.{eq, app}
 use Rattle.script_terms.specs.Flat.{Part, symbol, applied, place, tag_of, Item, noted, differing, checking}

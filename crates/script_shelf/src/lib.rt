@@ -1,4 +1,6 @@
 // The work table while a script is read: the only place that knows where in it anything stands then. Document 02, No. 4.
+#![tactic(auto)]
+
 ghost use Rattle.std.specs.Prelude.{◌≡◌, ℕ, ◌+◌, ◌≤◌, ◌<◌, length, get_or, set};
 ghost use Rattle.script_shelf.specs.Columns.{note_in, file_in, mark_in};
 
@@ -29,7 +31,7 @@ pub const SECOND: usize = 19027;
 pub const THIRD: usize = 24528;
 
 // How many of each there are in the table.
-#[derive(Drop)]
+#[derive(Clone, Copy)]
 pub struct Counts {
     pub symbols: u16,
     pub parts: u16,

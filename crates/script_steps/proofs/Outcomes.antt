@@ -1,7 +1,7 @@
 -- Reading on behind what has been read, as the definitions have it: a refusal is the whole's, and what was read is handed on. Assumes nothing.
 use Prim.Native.Nat.{ℕ, ◌≤◌}
 use native.Mathlib.Omega.{arith}
-use mathlib.Core.Path.{◌≡◌, refl, sym, ◌∙◌, ap, subst}
+use mathlib.Core.Path.{◌≡◌, refl, ◌∙◌}
 use mathlib.Core.Logic.{◌≢◌}
 use mathlib.Core.Bool.{Bool, true, false}
 use Rattle.script_meaning.specs.Reading.{Got, fault, got, ◌>>=◌, must, either}

@@ -2,7 +2,7 @@
 use Prim.Native.Nat.{ℕ, zero, suc, ◌+◌, ◌-◌, ◌≤◌, ◌<◌}
 use native.Mathlib.Omega.{arith}
 use native.Mathlib.Numerals.{add-one}
-use mathlib.Core.Path.{◌≡◌, refl, sym, ◌∙◌, ap, subst}
+use mathlib.Core.Path.{◌≡◌, refl, sym, ◌∙◌, ap}
 use mathlib.Core.Logic.{◌≢◌}
 use mathlib.Core.Bool.{Bool, true, false, cond, not, ◌&&◌, ◌||◌}
 use mathlib.Core.List.{List}
@@ -12,14 +12,13 @@ use lib.Seq.{slice, length-slice}
 use Rattle.script_terms.proofs.Tests.{both, and_no, eqb_yes, eqb_no, leb_yes, leb_no}
 use Rattle.script_terms.specs.Flat.{Item}
 use Rattle.script_meaning.specs.Tokens.{bytes, same_bytes, listed, reserved, core, Token, opening, closing, word, other, ended, Lexeme, lex, next, is_simple, is_word, text_of}
-use Rattle.script_meaning.specs.Reading.{Got, fault, got, ◌>>=◌, must, either, want, is_opening, is_closing, Seen, is_there, new_name, sort_is, Sorts, sorts_at}
+use Rattle.script_meaning.specs.Reading.{Got, got, ◌>>=◌, must, want, is_opening, is_closing, Seen, is_there, new_name, sort_is, Sorts, sorts_at}
 use Rattle.script_shelf.specs.Shelf.{Holding}
 use Rattle.script_shelf.specs.declared.Counts.{Counts}
 use Rattle.script_names.specs.Names.{Looks}
 use Rattle.script_words.specs.Words.{known, word_at, Says, Read}
-use Rattle.script_heads.specs.Names.{Readable}
 use Rattle.script_steps.specs.Steps.{Outcome, refused, gave, asked, askable, Passed, Wanted, SortRead, Numbered, Sorted, Fresh, NewNames}
-use Rattle.script_steps.proofs.Outcomes.{then-refused, then-gave, must-yes, must-no, either-yes, either-no, out-place}
+use Rattle.script_steps.proofs.Outcomes.{then-refused, then-gave, must-yes, must-no, either-yes, either-no}
 
 -- A token by its number is the token that is asked for.
 as-asked : {s : List ℕ} {x : Token} {kind from to : ℕ} (k : ℕ) → T (askable k) → Says s x kind from to → asked k x ≡ eqb kind k

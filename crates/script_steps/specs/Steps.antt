@@ -1,5 +1,5 @@
 -- What the steps of a command answer: the definition's own answer, refusal or not, and what is known of it. Assumes nothing.
-use Rattle.std.specs.Prelude.{ℕ, suc, ◌+◌, ◌-◌, ◌≤◌, ◌<◌, ◌≡◌, Bool, true, false, cond, ◌&&◌, ◌||◌, List, eqb, ltb, leb, length, get_or}
+use Rattle.std.specs.Prelude.{ℕ, ◌-◌, ◌≤◌, ◌<◌, ◌≡◌, Bool, false, cond, ◌&&◌, ◌||◌, List, eqb, ltb, leb, length, get_or}
 use Rattle.std.proofs.Math.Seq.{slice}
 use Rattle.script_terms.specs.Flat.{Item}
 use Rattle.script_meaning.specs.Tokens.{Token, Lexeme, lex, next, listed, core, is_word, text_of}

@@ -1,4 +1,6 @@
 // The steps that commands are made of: a token that is asked for, sorts, a new name. Document 02, No. 4. Rests on script_words, script_names, script_heads.
+#![tactic(auto)]
+
 ghost use Rattle.std.specs.Prelude.{◌≡◌, ℕ, ◌≤◌, ◌<◌, T, length};
 ghost use Rattle.std.proofs.Math.Seq.{slice};
 ghost use Rattle.script_words.specs.Words.{Read};
@@ -10,7 +12,7 @@ use script_shelf::Counts;
 use script_words::{is_word, read_at};
 
 // A refusal (14 to 16) at a place; or 0, the token's place, and the place behind it.
-#[derive(Drop)]
+#[derive(Clone, Copy)]
 pub struct Step {
     pub fault: u16,
     pub place: usize,
@@ -18,7 +20,7 @@ pub struct Step {
 }
 
 // The same, with how many there were.
-#[derive(Drop)]
+#[derive(Clone, Copy)]
 pub struct Count {
     pub fault: u16,
     pub place: usize,

@@ -12,7 +12,7 @@ use Rattle.script_terms.proofs.Tests.{eqb_no, leb_no, leb_yes}
 use Rattle.script_terms.specs.Terms.{none, count}
 use Rattle.script_terms.specs.Flat.{Item}
 use Rattle.script_meaning.specs.Tokens.{lex, next, text_of}
-use Rattle.script_meaning.specs.Reading.{Got, fault, Found, Seen, is_closing, term_at, arguments_at, find}
+use Rattle.script_meaning.specs.Reading.{Got, fault, Found, Seen, is_closing, term_at, arguments_at}
 use Rattle.script_terms.proofs.Known.{known_grown}
 use Rattle.script_meaning.proofs.Laws.{tag-grown}
 use Rattle.script_words.specs.Words.{Says, Read}

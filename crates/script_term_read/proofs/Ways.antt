@@ -1,29 +1,28 @@
 -- Bare names and closing parentheses, by what the code has. Assumes nothing.
-use Prim.Native.Nat.{ℕ, zero, suc, ◌+◌, ◌-◌, ◌≤◌, ◌<◌}
+use Prim.Native.Nat.{ℕ, zero, suc, ◌-◌, ◌≤◌, ◌<◌}
 use native.Mathlib.Omega.{arith}
 use native.Mathlib.Decide.{ℕ_discrete}
-use mathlib.Core.Path.{◌≡◌, refl, sym, ◌∙◌, ap, subst}
+use mathlib.Core.Path.{◌≡◌, refl, sym, ◌∙◌, ap}
 use mathlib.Core.Logic.{◌≢◌}
 use mathlib.Core.Bool.{Bool, true, false}
 use mathlib.Core.List.{List}
-use lib.Dec.{T, eqb, eqb→eq, leb, leb→le, le→leb}
+use lib.Dec.{eqb, leb}
 use lib.ListN.{length}
 use lib.Seq.{slice}
 use Rattle.script_terms.proofs.Tests.{eqb_no, leb_no, leb_yes}
-use Rattle.script_terms.specs.Terms.{constant, none, count}
-use Rattle.script_terms.specs.Flat.{Item, curry}
+use Rattle.script_terms.specs.Terms.{constant, count}
+use Rattle.script_terms.specs.Flat.{Item}
 use Rattle.script_meaning.specs.Tokens.{lex, next, text_of}
-use Rattle.script_meaning.specs.Reading.{Got, fault, Found, Symbol, Seen, fits, is_there, find, takes_of, term_at, arguments_at}
+use Rattle.script_meaning.specs.Reading.{Got, fault, Found, Symbol, Seen, is_there, find, takes_of, term_at}
 use Rattle.script_terms.proofs.Known.{leaf}
 use Rattle.script_words.specs.Words.{Says, Read}
 use Rattle.script_shelf.specs.declared.Counts.{Counts}
-use Rattle.script_shelf.specs.Shelf.{symbol_in}
 use Rattle.script_names.specs.Names.{Ready, Said, Looks}
 use Rattle.script_names.proofs.Held.{ready}
 use Rattle.script_names.proofs.Symbols.{there}
 use Rattle.script_fields.specs.Fields.{fitting}
 use Rattle.script_fields.proofs.Fields.{fitting-is}
-use Rattle.script_join.specs.Promises.{Start, TermRead, refused, found, Terms, Going}
+use Rattle.script_join.specs.Promises.{Start, refused, found, Terms, Going}
 use Rattle.script_join.proofs.Laws.{surplus-open, surplus-own, surplus-other, within-tags}
 use Rattle.script_join.proofs.Cycle.{wrote_none, bare-outside, bare-undeclared, bare-takes, bare-deep, bare-found, closed_none, closed-over, closed-good, surplus}
 use Rattle.script_term_read.specs.Asks.{TermAsk, Closes}

@@ -1,5 +1,5 @@
 -- What the readers of terms ask. Assumes nothing.
-use Rattle.std.specs.Prelude.{ℕ, ◌-◌, ◌≤◌, ◌<◌, ◌≡◌, List, length}
+use Rattle.std.specs.Prelude.{ℕ, ◌-◌, ◌≤◌, ◌<◌, List, length}
 use Rattle.script_terms.specs.Terms.{none}
 use Rattle.script_terms.specs.Flat.{Item}
 use Rattle.script_meaning.specs.Reading.{Seen, arguments_at}

@@ -1,5 +1,7 @@
 // Terms. Document 02, No. 4: "a term holds terms, and a list of arguments holds terms again". Rests on script_words, script_names, script_fields, script_join,
 // script_heads.
+#![tactic(auto)]
+
 ghost use Rattle.std.specs.Prelude.{◌≡◌, ◌≢◌, ℕ, ◌+◌, ◌≤◌, ◌<◌, leb, length};
 ghost use Rattle.script_meaning.specs.Tokens.{lex};
 ghost use Rattle.script_join.specs.Promises.{Terms, Arguments};
@@ -13,7 +15,7 @@ use script_shelf::Counts;
 use script_words::read_at;
 
 // A refusal (14 to 16) and its place; or 0, and the term's number, its last token and the place behind it.
-#[derive(Drop)]
+#[derive(Clone, Copy)]
 pub struct Found {
     pub fault: u16,
     pub place: usize,

@@ -1,8 +1,8 @@
 -- From the job to the congruences. A tag names one part. Parts that miss no argument are terms, and are compared by the congruence; parts that miss some are
 -- compared by their symbol and their arguments, which only records of applications can bring together. So what follows equal is equal. Assumes nothing.
-use Prim.Native.Nat.{ℕ, zero, suc, ◌<◌}
+use Prim.Native.Nat.{ℕ, zero, suc}
 use native.Mathlib.Omega.{arith}
-use mathlib.Core.Path.{◌≡◌, refl, sym, ◌∙◌}
+use mathlib.Core.Path.{◌≡◌, sym, ◌∙◌}
 use mathlib.Core.List.{List}
 use Rattle.meaning.specs.Following.{Rec, eq, app, Follows, same, flip, chain, given, congruent}
 use Rattle.script_terms.specs.Flat.{Part, symbol, applied, tag_of}

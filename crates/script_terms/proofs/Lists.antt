@@ -1,17 +1,15 @@
 -- The list of parts: what is in it, how it grows, and that a part is found again by its tag. Assumes nothing.
-use Prim.Native.Nat.{ℕ, zero, suc, ◌+◌, ◌-◌, ◌<◌}
-use native.Mathlib.Omega.{arith}
-use native.Mathlib.Decide.{dec_lt}
+use Prim.Native.Nat.{suc}
 use mathlib.Core.Path.{◌≡◌, refl, sym, ◌∙◌, ap, subst}
 use mathlib.Core.Logic.{◌⊎◌, inl, inr}
 use mathlib.Core.Bool.{Bool, true, false, cond, ◌&&◌, ◌||◌}
 use mathlib.Core.List.Memᴰ
 use mathlib.Core.List.{List, [], ◌∷◌, ◌++◌, append_assoc, append-nil, Memᴰ}
-use lib.Dec.{T, eqb, eqb→eq, eqb_refl, ltb}
+use lib.Dec.{T, eqb→eq, eqb_refl}
 use lib.ListN.{length, get_or, drop}
 use lib.Seq.{drop-append_seam}
 use Rattle.script_terms.proofs.Tests.{both}
-use Rattle.script_terms.specs.Flat.{Part, symbol, applied, same, has, add, met, place, tag_of}
+use Rattle.script_terms.specs.Flat.{Part, symbol, applied, same, has, add, met, place}
 
 pub same-one : (p q : Part) → T (same p q) → p ≡ q
 same-one (symbol f) (symbol g) t = ap symbol (eqb→eq f g t)

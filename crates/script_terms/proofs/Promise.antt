@@ -1,8 +1,8 @@
 -- Document 02, No. 4: "Promise: two declared constants follow equal in the job exactly when they are equal in every congruence on the script's terms that holds
 -- its equations." Proved for any two terms that have a tag, of which the constants are some. Assumes nothing.
-use Prim.Native.Nat.{ℕ, ◌<◌}
+use Prim.Native.Nat.{ℕ}
 use native.Mathlib.Omega.{arith}
-use mathlib.Core.Path.{◌≡◌, refl, sym, ◌∙◌}
+use mathlib.Core.Path.{◌≡◌, refl}
 use mathlib.Core.Logic.{◌⊎◌, inl, inr, ◌↔◌}
 use mathlib.Core.List.Memᴰ
 use mathlib.Core.List.{List, [], ◌∷◌, Memᴰ}
@@ -10,14 +10,14 @@ use lib.ListN.{length, get_or}
 use Rattle.meaning.specs.Following.{Rec, eq, app, Follows, given}
 use Rattle.meaning.proofs.Close.{more}
 use Rattle.script_terms.specs.Terms.{Term, call, Args, none, count, constant, Among, Congruence, Command, declare, equal, differ, check, arities_of, Asserted, equal-left, equal-right, differ-left, differ-right, Holds, Terms, Declared, Built, built, Occurring, side, argument, plain}
-use Rattle.script_terms.specs.Flat.{Part, symbol, applied, curry, met, after, parts_from, tag_of, record_of, records_of, items_from, parts_of, symbols_of, items_of}
+use Rattle.script_terms.specs.Flat.{Part, applied, curry, met, after, parts_from, tag_of, record_of, records_of, items_from, parts_of, symbols_of, items_of}
 use Rattle.script_terms.specs.Promise.{Everywhere, FollowInJob, Promised}
-use Rattle.script_terms.proofs.Lists.{Grown, grown-same, grown-on, grown-in, met-grown}
-use Rattle.script_terms.proofs.Known.{Known, leaf, node, known_grown, known-named, Within, Entry, entry, Filed, filed-none, met-known, met-filed, name_of}
+use Rattle.script_terms.proofs.Lists.{Grown, grown-same, met-grown}
+use Rattle.script_terms.proofs.Known.{Known, leaf, node, known_grown, known-named, Entry, entry, Filed, filed-none, met-known, met-filed}
 use Rattle.script_terms.proofs.Worth.{Worth, Agree, agree-worth, agree-follows, known-worth}
 use Rattle.script_terms.proofs.Alike.{Equation, Application, follows-equal}
 use Rattle.script_terms.proofs.Terms.{uncurry, curry-back, regular, term-within, worth-congruence}
-use Rattle.script_terms.proofs.Script.{Whole, mem_whole, whole_mem, parts-grown, part-recorded, equation-recorded, Source, of_part, of-equation, record-source}
+use Rattle.script_terms.proofs.Script.{mem_whole, whole_mem, parts-grown, part-recorded, equation-recorded, Source, of_part, of-equation, record-source}
 
 pub asserted-behind : {c : Command} {cs : List Command} {t : Term} → Asserted cs t → Asserted (c ∷ cs) t
 asserted-behind (equal-left i) = equal-left (Memᴰ.tail i)

@@ -1,21 +1,16 @@
 -- A script's job: which records it has, and that two declared constants follow equal in it exactly when they are equal in every congruence on the script's
 -- terms that holds its equations. Assumes nothing.
-use Prim.Native.Nat.{ℕ, zero, suc, ◌<◌, ◌≤◌}
+use Prim.Native.Nat.{ℕ, zero, suc, ◌<◌}
 use native.Mathlib.Omega.{arith}
 use mathlib.Core.Path.{◌≡◌, refl, sym, ◌∙◌, ap}
-use mathlib.Core.Logic.{◌⊎◌, inl, inr, ◌↔◌}
+use mathlib.Core.Logic.{◌⊎◌, inl, inr}
 use mathlib.Core.List.Memᴰ
 use mathlib.Core.List.{List, [], ◌∷◌, ◌++◌, map, Memᴰ}
 use lib.ListN.{length, get_or, drop}
-use Rattle.meaning.specs.Following.{Rec, eq, app, At, Follows, UpTo}
-use Rattle.meaning.proofs.Close.{more}
-use Rattle.script_terms.specs.Terms.{Term, call, constant, Congruence, Command, declare, equal, differ, check, arities_of, Asserted, equal-left, equal-right, differ-left, differ-right, Holds, Terms, Declared}
-use Rattle.script_terms.specs.Flat.{Part, symbol, applied, curry, met, after, parts_from, place, tag_of, record_of, Item, noted, differing, checking, records_of, new_items, own_of, items_from, parts_of, symbols_of, items_of}
+use Rattle.meaning.specs.Following.{Rec, eq, UpTo}
+use Rattle.script_terms.specs.Terms.{Term, Command, declare, equal, differ, check}
+use Rattle.script_terms.specs.Flat.{Part, curry, met, after, parts_from, tag_of, record_of, Item, noted, differing, checking, records_of, new_items, own_of, items_from}
 use Rattle.script_terms.proofs.Lists.{Grown, grown-same, grown-on, grown-in, grown-cases, new_in, met-grown}
-use Rattle.script_terms.proofs.Known.{Known, leaf, node, known_grown, known-named, Within, bare, Entry, entry, Filed, filed-none, met-known, met-filed, name_of}
-use Rattle.script_terms.proofs.Worth.{Worth, itself, Agree, agree-worth, agree-follows, known-worth}
-use Rattle.script_terms.proofs.Alike.{Equation, Application, follows-equal}
-use Rattle.script_terms.proofs.Terms.{uncurry, curry-back, regular, term-within, worth-congruence}
 
 -- The records of a list, by number and by membership.
 mem-at : {r : Rec} {rs : List Rec} → Memᴰ r rs → (i : ℕ) × (i < length rs) × (get_or rs i (eq 0 0) ≡ r)

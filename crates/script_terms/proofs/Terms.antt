@@ -1,11 +1,11 @@
 -- Between terms and the parts of curried terms: a congruence on terms is one on parts, and the other way round. Assumes nothing.
-use Prim.Native.Nat.{ℕ, zero, suc, ◌<◌}
+use Prim.Native.Nat.{ℕ}
 use native.Mathlib.Omega.{arith}
 use mathlib.Core.Path.{◌≡◌, refl, sym, ◌∙◌, ap}
 use mathlib.Core.List.{List}
 use lib.ListN.{length, get_or}
-use Rattle.meaning.specs.Following.{Rec, Follows}
-use Rattle.script_terms.specs.Terms.{Term, call, Args, none, more, constant, count, snoc, Among, first, later, Each, end, next, Congruence, Command, Terms, Declared}
+use Rattle.meaning.specs.Following.{Rec}
+use Rattle.script_terms.specs.Terms.{Term, call, Args, none, more, constant, count, snoc, Among, first, later, Each, end, next, Congruence, Command, Terms}
 use Rattle.script_terms.specs.Flat.{Part, symbol, applied, curry, spine}
 use Rattle.script_terms.proofs.Known.{Within, bare, with}
 use Rattle.script_terms.proofs.Worth.{Agree, agree_refl, agree-sym, agree_trans, agree-applied}

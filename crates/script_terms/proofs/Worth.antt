@@ -1,9 +1,8 @@
 -- From the congruences to the job. A part is worth a tag if the records make it of its symbols' tags; parts that are worth equal tags, or none, are equal in a
 -- congruence, and a symbol is worth its own tag. Assumes nothing.
 use Prim.Native.Nat.{ℕ}
-use mathlib.Core.Path.{◌≡◌, refl, sym}
 use mathlib.Core.List.{List, Memᴰ}
-use Rattle.meaning.specs.Following.{Rec, eq, app, Follows, same, flip, chain, given, congruent}
+use Rattle.meaning.specs.Following.{Rec, app, Follows, same, flip, chain, congruent}
 use Rattle.script_terms.specs.Flat.{Part, symbol, applied, tag_of}
 use Rattle.script_terms.proofs.Known.{Known, leaf, node}
 

@@ -1,7 +1,7 @@
 -- DEFINITIONS, to be read against document 02, No. 4: "Curry and flatten as source document 002 does: one tag for each declared symbol in order, then one for
 -- each distinct compound part of the curried terms, after its two halves, the left half first. Its 02 stands where the part is first met; the assertion's 01
 -- or 05 follows. .. Negated equalities become 05, check-sat becomes 06. A script that declares no symbol gets N = 1." Assumes nothing.
-use Rattle.std.specs.Prelude.{ℕ, zero, suc, ◌+◌, max, Bool, true, false, cond, ◌&&◌, ◌||◌, List, [], ◌∷◌, ◌++◌, map, eqb, length, drop}
+use Rattle.std.specs.Prelude.{ℕ, suc, ◌+◌, max, Bool, false, cond, ◌&&◌, ◌||◌, List, [], ◌∷◌, ◌++◌, map, eqb, length, drop}
 use Rattle.meaning.specs.Following.{Rec, eq, app}
 use Rattle.script_terms.specs.Terms.{Term, call, Args, none, more, Command, declare, equal, differ, check, arities_of}
 

@@ -1,17 +1,17 @@
 -- What the lexer's steps rest on. Assumes nothing.
-use Prim.Native.Nat.{ℕ, zero, suc, ◌+◌, ◌<◌, ◌≤◌}
+use Prim.Native.Nat.{ℕ, suc, ◌+◌, ◌<◌, ◌≤◌}
 use native.Mathlib.Omega.{arith}
 use native.Mathlib.Decide.{ℕ_discrete}
 use mathlib.Core.Path.{◌≡◌, refl, sym, ◌∙◌, ap, subst}
 use mathlib.Core.Bool.{Bool, true, false, cond, not, ◌&&◌}
-use mathlib.Core.List.{List, [], ◌∷◌}
+use mathlib.Core.List.{List, ◌∷◌}
 use mathlib.Core.Logic.{◌≢◌}
-use lib.Dec.{T, eqb, ltb, leb, ltb→lt, lt→ltb, eqb→eq, eqb_refl, leb→le, le→leb, nltb→le}
+use lib.Dec.{T, eqb, ltb, leb, ltb→lt, eqb_refl, nltb→le}
 use lib.ListN.{length, get_or, drop, drop_of_length-le}
 use native.Mathlib.Numerals.{add-one}
 use lib.Seq.{drop-cons}
 use Rattle.script_terms.proofs.Tests.{both, alike, alike-one, eqb_yes, eqb_no, ltb_yes, ltb_no, leb_yes, leb_no}
-use Rattle.script_meaning.specs.Tokens.{is_blank, is_break, is_symbolic, is_digit_byte, skip, run, Token, opening, closing, word, other, ended, token_of, lex}
+use Rattle.script_meaning.specs.Tokens.{is_blank, is_break, is_symbolic, is_digit_byte, skip, run, Token, opening, closing, word, other, token_of, lex}
 use Rattle.script_tokens.specs.Lexing.{Classed, Onward, Skipped, Ran, Kinded, at-end, at-opening, at-closing, at_other, at-word, Lexed}
 
 -- The whole rule as one test.

@@ -1,4 +1,6 @@
 // The tokens of a script. Document 02, No. 4; SMT-LIB 2.6, section 3.1. Rests on script_meaning.
+#![tactic(auto)]
+
 ghost use Rattle.std.specs.Prelude.{◌≡◌, ℕ, ◌≤◌, ◌<◌, length, drop};
 ghost use Rattle.script_tokens.specs.Lexing.{Classed, Onward, Skipped, Ran, Lexed};
 
@@ -82,7 +84,7 @@ fn run_end(s: &[u8], from: usize) -> usize
 }
 
 // A token: 0 the end, 3 and 4 parentheses, 5 any other byte, 6 a word; and its first byte and the place behind it.
-#[derive(Drop)]
+#[derive(Clone, Copy)]
 pub struct Lexeme {
     pub kind: u8,
     pub from: usize,

@@ -1,21 +1,20 @@
 -- A token by its number. Assumes nothing.
 use Prim.Native.Nat.{ℕ, zero, suc, ◌+◌, ◌≤◌, ◌<◌}
-use Prim.Native.String.{String}
 use native.Mathlib.Omega.{arith}
 use native.Mathlib.Decide.{ℕ_discrete}
 use mathlib.Core.Path.{◌≡◌, refl, sym, ◌∙◌, ap, subst}
 use mathlib.Core.Logic.{◌≢◌}
-use mathlib.Core.Bool.{Bool, true, false, cond, not, ◌&&◌}
+use mathlib.Core.Bool.{Bool, true, false, cond}
 use mathlib.Core.List.{List, [], ◌∷◌}
-use lib.Dec.{T, eqb, leb}
+use lib.Dec.{eqb}
 use lib.ListN.{length, get_or, drop, take}
 use lib.Seq.{slice, slice-cons, take-nil}
-use Rattle.script_terms.proofs.Tests.{eqb_yes, eqb_no, leb_yes, leb_no, and_no}
-use Rattle.script_meaning.specs.Tokens.{bytes, same_bytes, listed, reserved, core, is_digit_byte, first_digit, is_symbolic, run, Token, opening, closing, word, other, ended, token_of, lex, next, size_of, is_simple, is_word, text_of}
-use Rattle.script_meaning.specs.Reading.{is_opening, is_closing, is_ended, is_own}
+use Rattle.script_terms.proofs.Tests.{eqb_yes, eqb_no}
+use Rattle.script_meaning.specs.Tokens.{bytes, same_bytes, listed, core, is_digit_byte, first_digit, is_symbolic, run, Token, opening, closing, word, other, token_of, lex, next, size_of, is_simple}
+use Rattle.script_meaning.specs.Reading.{is_own}
 use Rattle.script_tokens.specs.Lexing.{Kinded, at-end, at-opening, at-closing, at_other, at-word, Lexed}
 use Rattle.script_words.specs.Words.{known, word_at, Spotted, Placed, told, number, name, Says, Read}
-use Rattle.script_words.proofs.Telling.{spotted-is, Told, told_of, none-core, none-reserved}
+use Rattle.script_words.proofs.Telling.{spotted-is, told_of, none-core, none-reserved}
 
 -- A run is the front of what it is taken from.
 run-front : (l : List ℕ) → run l ≡ take (length (run l)) l

@@ -1,18 +1,18 @@
 -- The words are told apart: one test that antt computes says that the letters are the words one behind the other, and that no two words are one. Assumes nothing.
-use Prim.Native.Nat.{ℕ, zero, suc, ◌+◌, ◌≤◌, ◌<◌}
+use Prim.Native.Nat.{ℕ, suc, ◌+◌, ◌≤◌, ◌<◌}
 use native.Mathlib.Omega.{arith}
 use native.Mathlib.Decide.{ℕ_discrete}
 use native.Mathlib.Numerals.{add-one}
 use mathlib.Core.Path.{◌≡◌, refl, sym, ◌∙◌, ap, subst}
 use mathlib.Core.Logic.{◌≢◌}
-use mathlib.Core.Bool.{Bool, true, false, not, ◌&&◌, ◌||◌}
+use mathlib.Core.Bool.{Bool, true, false, ◌&&◌}
 use mathlib.Core.List.{List, [], ◌∷◌}
 use Prim.Native.String.{String}
 use lib.Dec.{T, eqb, leb, leb→le}
 use lib.ListN.{length, get_or}
 use lib.Seq.{slice}
-use Rattle.script_terms.proofs.Tests.{is_true, both, alike, alike-one, each, each_at, eqb_yes, eqb_no}
-use Rattle.script_meaning.specs.Tokens.{bytes, same_bytes, listed, reserved, core, Token, word, is_simple}
+use Rattle.script_terms.proofs.Tests.{both, alike, alike-one, each, each_at, eqb_yes, eqb_no}
+use Rattle.script_meaning.specs.Tokens.{bytes, same_bytes, listed, reserved, core, word, is_simple}
 use Rattle.script_meaning.specs.Reading.{is_own}
 use Rattle.script_meaning.proofs.Matching.{bytes_one, Comparing, compare-on, compare-differ, compare-short, compare-long, compare-end}
 use Rattle.script_words.specs.Words.{known, word_at, letters, Spanned, Spotted}

@@ -1,5 +1,5 @@
 -- DEFINITIONS: the words that are told apart, and what a token's number says of it. Assumes nothing.
-use Rattle.std.specs.Prelude.{ℕ, ◌+◌, ◌≤◌, ◌<◌, ◌≡◌, ◌≢◌, Bool, true, false, ◌&&◌, List, [], ◌∷◌, ◌++◌, eqb, leb, length, get_or}
+use Rattle.std.specs.Prelude.{ℕ, ◌+◌, ◌≤◌, ◌<◌, ◌≡◌, ◌≢◌, true, false, ◌&&◌, List, [], ◌∷◌, ◌++◌, eqb, leb, length, get_or}
 use Prim.Native.String.{String}
 use Rattle.std.proofs.Math.Seq.{slice}
 use Rattle.script_meaning.specs.Tokens.{bytes, same_bytes, listed, reserved, core, is_digit_byte, Token, is_simple, is_word, text_of, lex, next}

@@ -1,5 +1,7 @@
 // Words that mean something by themselves, and a script's tokens with these told apart. Document 02, No. 4: "Names are simple symbols .. Core's names counting as
 // declared"; SMT-LIB 2.6, section 3.1, for the reserved words. Rests on script_meaning, script_tokens.
+#![tactic(auto)]
+
 ghost use Rattle.std.specs.Prelude.{◌≡◌, ℕ, ◌≤◌, ◌<◌, length, get_or};
 ghost use Rattle.std.proofs.Math.Seq.{slice};
 ghost use Rattle.script_meaning.specs.Tokens.{same_bytes, is_digit_byte};
@@ -54,7 +56,7 @@ pub const BOOL: usize = 54;
 pub const QF_UF: usize = 55;
 
 // A word's place among the letters.
-#[derive(Drop)]
+#[derive(Clone, Copy)]
 struct Span {
     from: usize,
     to: usize,

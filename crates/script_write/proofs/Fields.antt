@@ -1,18 +1,17 @@
 -- The fields of the table as bytes, one after the other. Assumes nothing.
-use Prim.Native.Nat.{ℕ, zero, suc, ◌+◌, ◌-◌, ◌*◌, ◌≤◌, ◌<◌, max}
+use Prim.Native.Nat.{ℕ, zero, suc, ◌+◌, ◌-◌, ◌≤◌, ◌<◌}
 use native.Mathlib.Omega.{arith}
 use native.Mathlib.Decide.{ℕ_discrete}
 use native.Mathlib.Numerals.{add-one}
-use mathlib.Core.Path.{◌≡◌, refl, sym, ◌∙◌, ap, subst}
+use mathlib.Core.Path.{◌≡◌, refl, sym, ◌∙◌, subst}
 use mathlib.Core.Logic.{◌≢◌}
-use mathlib.Core.Bool.{Bool, true, false, cond}
+use mathlib.Core.Bool.{cond}
 use mathlib.Core.List.{List, [], ◌∷◌, ◌++◌}
 use lib.Dec.{eqb}
 use lib.ListN.{length, get_or, length-append}
 use Rattle.report.specs.Report.{two as number, front, laid}
-use Rattle.report.proofs.Laid.{laid_none, laid_then, length-laid}
+use Rattle.report.proofs.Laid.{laid_none, laid_then}
 use Rattle.script_terms.proofs.Tests.{eqb_yes, eqb_no, ltb_yes, ltb_no}
-use Rattle.script_meaning.specs.Bytes.{two}
 use Rattle.script_meaning.proofs.Shift.{shift}
 use Rattle.script_shelf.specs.declared.Counts.{Counts}
 use Rattle.script_write.specs.Writing.{pair_of, triple_of, field_bytes, field_in, fields_in, FieldPut, FieldsAsk, FieldsPut}

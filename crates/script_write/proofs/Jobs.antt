@@ -7,17 +7,17 @@ use lib.ListN.{length, get_or, take, drop, length-append, length-map}
 use Rattle.meaning.specs.Following.{Rec, eq, app}
 use Rattle.report.specs.Report.{two as number, front, laid}
 use Rattle.report.proofs.Laid.{laid_then, laid-front}
-use Rattle.script_terms.specs.Terms.{Command, declare, equal, differ, check, arities_of, differs_of, checks_of}
+use Rattle.script_terms.specs.Terms.{Command, declare, equal, differ, check, differs_of, checks_of}
 use Rattle.script_terms.specs.Flat.{Part, after, record_of, Item, noted, differing, checking, records_of, new_items, own_of, items_from, parts_of, symbols_of, tags_of, items_of}
-use Rattle.script_meaning.specs.Reading.{Got, got, reading}
-use Rattle.script_meaning.specs.Bytes.{two, field_of, fields_of, job_of}
-use Rattle.script_meaning.proofs.Laws.{Limits, reading-limits}
-use Rattle.script_meaning.proofs.Shift.{shift, shift_item, reading-shift}
-use Rattle.script_shelf.specs.Shelf.{kind_of, first_of, second_of, third_of, Holding}
+use Rattle.script_meaning.specs.Reading.{got, reading}
+use Rattle.script_meaning.specs.Bytes.{field_of, fields_of, job_of}
+use Rattle.script_meaning.proofs.Laws.{reading-limits}
+use Rattle.script_meaning.proofs.Shift.{shift_item, reading-shift}
+use Rattle.script_shelf.specs.Shelf.{kind_of, first_of, second_of, third_of}
 use Rattle.script_shelf.specs.declared.Counts.{Counts}
 use Rattle.script_commands.proofs.Asking.{room_of}
 use Rattle.script_read.specs.Script.{Whole}
-use Rattle.script_write.specs.Writing.{pair_of, triple_of, field_bytes, field_in, fields_in, FieldsAsk, FieldsPut, JobAsk, Job, JobPut}
+use Rattle.script_write.specs.Writing.{pair_of, triple_of, field_bytes, field_in, fields_in, FieldsAsk, FieldsPut, JobAsk, Job}
 
 -- The bytes of fields, without the end.
 abbrev flat : List Item → List ℕ

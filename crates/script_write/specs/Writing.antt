@@ -1,8 +1,8 @@
 -- The bytes of the job, by what the table holds. Assumes nothing.
-use Rattle.std.specs.Prelude.{ℕ, zero, suc, ◌+◌, ◌≤◌, ◌<◌, max, ◌≡◌, Bool, cond, List, [], ◌∷◌, ◌++◌, eqb, length, get_or, drop}
+use Rattle.std.specs.Prelude.{ℕ, zero, suc, ◌+◌, ◌≤◌, ◌≡◌, cond, List, [], ◌∷◌, ◌++◌, eqb, length, get_or, drop}
 use Rattle.report.specs.Report.{laid}
 use Rattle.script_terms.specs.Terms.{Command}
-use Rattle.script_meaning.specs.Reading.{Got, got, reading}
+use Rattle.script_meaning.specs.Reading.{got, reading}
 use Rattle.script_meaning.specs.Bytes.{two, job_of}
 use Rattle.script_meaning.proofs.Shift.{shift}
 use Rattle.script_shelf.specs.declared.Counts.{Counts}

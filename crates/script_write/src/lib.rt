@@ -1,5 +1,7 @@
 // The job that a script becomes, from the work table into the room. Document 02, No. 4: "The header has length 2"; document 01, "The job and the report". Rests on
 // script_shelf, report_write; what the table holds is script_read's.
+#![tactic(auto)]
+
 ghost use Rattle.std.specs.Prelude.{◌≡◌, ℕ, ◌+◌, ◌≤◌, ◌<◌, max, length};
 ghost use Rattle.report.specs.Report.{laid};
 ghost use Rattle.script_meaning.proofs.Shift.{shift};

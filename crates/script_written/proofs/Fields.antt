@@ -1,15 +1,15 @@
 -- A field that is written as the job's table has it is read as what was meant. Assumes nothing.
-use Prim.Native.Nat.{ℕ, zero, suc, ◌+◌, ◌*◌, ◌/◌, ◌%◌, ◌≤◌, ◌<◌}
+use Prim.Native.Nat.{ℕ, suc, ◌+◌, ◌*◌, ◌/◌, ◌%◌, ◌≤◌, ◌<◌}
 use native.Mathlib.Omega.{arith}
-use mathlib.Core.Path.{◌≡◌, refl, sym, ◌∙◌, ap, ap₂, subst}
+use mathlib.Core.Path.{◌≡◌, refl, sym, ◌∙◌, ap, ap₂}
 use mathlib.Core.Bool.{Bool, true, false}
 use mathlib.Core.List.{List, [], ◌∷◌, ◌++◌}
-use lib.Dec.{eqb, leb, ltb}
+use lib.Dec.{eqb, leb}
 use lib.ListN.{length, get_or, length-append}
 use Rattle.meaning.specs.Following.{eq, app}
 use Rattle.script_terms.specs.Flat.{Item, noted, differing, checking}
-use Rattle.script_terms.proofs.Tests.{eqb_yes, eqb_no, leb_yes, ltb_yes}
-use Rattle.script_meaning.specs.Bytes.{two, field_of}
+use Rattle.script_terms.proofs.Tests.{eqb_yes, eqb_no, leb_yes}
+use Rattle.script_meaning.specs.Bytes.{field_of}
 use Rattle.job_field.specs.Items as job
 use Rattle.job_field.specs.Reading.{byte_at, number_at, Kind, first, record-eq, record-app, note-differ, question-broken, last, Field, header, item, end, kind_later, sheeted_in, kind_at, length_of_body, known, length_at, behind_at, body_at, or_else, field_of_kind, field_standing}
 use Rattle.script_written.specs.Written.{item_of}

@@ -1,22 +1,22 @@
 -- Every tag of a script's fields is below N, and no limit is passed. Assumes nothing.
-use Prim.Native.Nat.{ℕ, zero, suc, ◌+◌, ◌≤◌, ◌<◌, max}
+use Prim.Native.Nat.{ℕ, ◌+◌, ◌≤◌}
 use native.Mathlib.Omega.{arith}
-use mathlib.Core.Path.{◌≡◌, refl, sym, ◌∙◌, ap, subst}
+use mathlib.Core.Path.{◌≡◌, refl, ap}
 use mathlib.Core.List.{List, [], ◌∷◌, ◌++◌, map, Memᴰ}
-use lib.ListN.{length, drop, length-append}
-use Rattle.meaning.specs.Following.{Rec, eq, app}
-use Rattle.script_terms.specs.Terms.{Term, Command, declare, equal, differ, check, arities_of, Asserted, equal-left, equal-right, differ-left, differ-right, differs_of, checks_of}
-use Rattle.script_terms.specs.Flat.{Part, applied, curry, after, parts_from, place, tag_of, record_of, Item, noted, differing, checking, records_of, new_items, own_of, items_from, parts_of, symbols_of, tags_of, items_of}
+use lib.ListN.{length, drop}
+use Rattle.meaning.specs.Following.{Rec, eq}
+use Rattle.script_terms.specs.Terms.{Term, Command, declare, equal, differ, check, Asserted, equal-left, equal-right, differ-left, differ-right, differs_of, checks_of}
+use Rattle.script_terms.specs.Flat.{Part, curry, after, parts_from, tag_of, record_of, Item, noted, differing, checking, records_of, new_items, own_of, items_from, parts_of, symbols_of, tags_of, items_of}
 use Rattle.script_terms.proofs.Lists.{grown-in, new_in}
 use Rattle.script_terms.proofs.Known.{Known, node, Entry, entry, filed-none}
 use Rattle.script_terms.proofs.Script.{after-grown, parts-grown}
 use Rattle.script_terms.proofs.Promise.{asserted-behind, asserted-known, parts-filed, all-terms}
-use Rattle.script_meaning.specs.Reading.{Got, got, reading}
-use Rattle.script_meaning.proofs.Laws.{Limits, reading-limits, tag_below}
+use Rattle.script_meaning.specs.Reading.{got, reading}
+use Rattle.script_meaning.proofs.Laws.{tag_below}
 use Rattle.script_meaning.proofs.Said.{reading-built}
 use Rattle.job_field.specs.Items as job
 use Rattle.job_field.specs.Standing.{Below}
-use Rattle.script_written.specs.Written.{item_of, items_for}
+use Rattle.script_written.specs.Written.{item_of}
 
 -- Each item has tags below N.
 pub data Each (N : ℕ) : List Item → Type 0 where

@@ -1,25 +1,25 @@
 -- The job that an accepted script becomes is accepted by the reading, as the script's own fields: so a run on it is refused for room at most. Assumes nothing.
-use Prim.Native.Nat.{ℕ, zero, suc, ◌+◌, ◌*◌, ◌/◌, ◌%◌, ◌≤◌, ◌<◌, max}
+use Prim.Native.Nat.{ℕ, zero, suc, ◌+◌, ◌/◌, ◌%◌, ◌≤◌, ◌<◌}
 use native.Mathlib.Omega.{arith}
-use mathlib.Core.Path.{◌≡◌, refl, sym, ◌∙◌, ap, ap₂, subst}
+use mathlib.Core.Path.{◌≡◌, refl, sym, ◌∙◌, ap}
 use mathlib.Core.Bool.{Bool, true, false, cond, ◌&&◌}
 use mathlib.Core.List.{List, [], ◌∷◌, ◌++◌, map, append_assoc}
-use lib.Dec.{eqb, leb, ltb}
-use lib.ListN.{length, get_or, length-append}
+use lib.Dec.{leb, ltb}
+use lib.ListN.{length, length-append}
 use Rattle.meaning.specs.Following.{eq, app}
 use Rattle.script_terms.specs.Terms.{Command}
 use Rattle.script_terms.specs.Flat.{Item, noted, differing, checking, parts_of, symbols_of, tags_of, items_of}
 use Rattle.script_terms.proofs.Tests.{leb_yes, ltb_yes}
-use Rattle.script_meaning.specs.Reading.{Got, got, reading}
-use Rattle.script_meaning.specs.Bytes.{two, field_of, fields_of, job_of}
-use Rattle.script_meaning.proofs.Laws.{Limits, reading-limits}
+use Rattle.script_meaning.specs.Reading.{got, reading}
+use Rattle.script_meaning.specs.Bytes.{field_of, fields_of, job_of}
+use Rattle.script_meaning.proofs.Laws.{reading-limits}
 use Rattle.job_field.specs.Items as job
-use Rattle.job_field.specs.Reading.{Field, header, item, end, behind_at, field_standing, or_else, counted, size_right, sized, tagged, filed, sheeted_in, checked, with as before, behind, onward, read_from, reading as job-reading}
+use Rattle.job_field.specs.Reading.{Field, header, item, end, behind_at, or_else, counted, size_right, tagged, filed, sheeted_in, checked, with as before, onward, read_from, reading as job-reading}
 use Rattle.job_field.specs.Standing.{Below}
 use Rattle.job_field.proofs.Items.{after-records, after-differs, after-questions}
 use Rattle.script_written.specs.Written.{item_of, head_for, items_for}
-use Rattle.script_written.proofs.Fields.{or-else, Reads, end_read, item-read, header_read}
-use Rattle.script_written.proofs.Tags.{Each, none, more, reading-each, records-same, items-pairs, items-asked}
+use Rattle.script_written.proofs.Fields.{or-else, end_read, item-read, header_read}
+use Rattle.script_written.proofs.Tags.{Each, more, reading-each, records-same, items-pairs, items-asked}
 
 -- Tags below N pass.
 tags-pass : (N n : ℕ) (ts : List ℕ) (f : Field) → Below N ts → tagged N n ts f ≡ f

@@ -1,5 +1,5 @@
 -- DEFINITIONS: the items of document 01's job that a script's fields are. Kinds 01 and 02 are records, 05 notes that two tags must differ, 06 asks. Assumes nothing.
-use Rattle.std.specs.Prelude.{ℕ, false, List, map}
+use Rattle.std.specs.Prelude.{false, List, map}
 use Rattle.script_terms.specs.Terms.{Command}
 use Rattle.script_terms.specs.Flat.{Item, noted, differing, checking, tags_of, items_of}
 use Rattle.job_field.specs.Items as job

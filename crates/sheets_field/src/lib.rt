@@ -1,5 +1,7 @@
 // The sheets of a reason in a report: the field 8A, written and tested. Document 02, No. 9. Rests on sheets_walk, which finds the sheets, on report_write,
 // report_read and table.
+#![tactic(auto)]
+
 ghost use Rattle.std.specs.Prelude.{◌≡◌, ◌↔◌, true, ◌+◌, ◌*◌, ◌≤◌, ◌<◌, length};
 ghost use Rattle.table.specs.Map.{sheet_of, sheets_in};
 ghost use Rattle.table.specs.Places.{Large, front_size};

@@ -1,5 +1,7 @@
 // The sheets of a reason, found in the job by one walk beside the table's list, which rises. Document 02, No. 9. Rests on meaning, table, job_field and
 // sheets_find.
+#![tactic(auto)]
+
 ghost use Rattle.std.specs.Prelude.{◌≡◌, length};
 ghost use Rattle.job_field.specs.Items.{sheets_in};
 ghost use Rattle.job_field.specs.Answer.{note_said, said};

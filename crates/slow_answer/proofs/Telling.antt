@@ -1,5 +1,5 @@
 -- The labels that the closure leaves are the smallest tags of their classes, so the seat of a tag's label is its leader. Assumes nothing.
-use Prim.Native.Nat.{ℕ, suc, min, ◌+◌, ◌-◌, ◌≤◌, ◌<◌}
+use Prim.Native.Nat.{ℕ, suc, min, ◌-◌, ◌≤◌, ◌<◌}
 use native.Mathlib.Omega.{arith}
 use mathlib.Core.Path.{◌≡◌, refl, sym, ◌∙◌}
 use mathlib.Core.Logic.{inl}
@@ -12,7 +12,7 @@ use Rattle.meaning.specs.Looks.{under}
 use Rattle.meaning.proofs.Laws.{follows-small, small-those}
 use Rattle.meaning.proofs.Reference.{Small}
 use Rattle.table.specs.Map.{label_of, saved_of, rec_at, records_in, gather, Loaded, Within}
-use Rattle.table.specs.Places.{LABEL, Large, SAVED, SINCE, all_of}
+use Rattle.table.specs.Places.{LABEL, SAVED, all_of}
 use Rattle.table.proofs.Frame.{seen_at, seen-within, within-trans, within_wider, length-gather, get_or-gather}
 use Rattle.table_labels.specs.Parts.{CountsUp}
 use Rattle.table_labels.proofs.Views.{lent-within, lent_at}

@@ -1,5 +1,7 @@
 // What the simulator is told: the closure by passes, and the leader of every tag at the front of the room; or that the limit is spent. Document 02, No. 12.
 // Rests on slow_close, leading (the seats of the units) and answer_why (how a leader is written).
+#![tactic(auto)]
+
 ghost use Rattle.std.specs.Prelude.{◌≡◌, ℕ, ◌*◌, ◌≤◌, length};
 ghost use Rattle.meaning.specs.Limits.{most_tags};
 ghost use Rattle.table.specs.Map.{gather, Loaded};
@@ -15,7 +17,7 @@ use table::{SAVED, SINCE};
 use table_labels::count_up;
 
 // What the call answers: the documents' number, its place, and how many passes changed something.
-#[derive(Drop)]
+#[derive(Clone, Copy)]
 pub struct Count {
     pub number: u8,
     pub place: usize,

@@ -1,7 +1,7 @@
 -- Two outcomes that meet the promise of the simulator's call on the same lent things are one: reading is a function, the cases exclude each other, what is told is one,
 -- and a table of a length whose places are all told is one.
 -- Assumes nothing.
-use Prim.Native.Nat.{ℕ, ◌*◌, ◌≤◌, ◌<◌}
+use Prim.Native.Nat.{ℕ}
 use native.Mathlib.Omega.{arith}
 use mathlib.Core.Path.{◌≡◌, refl, ap}
 use mathlib.Core.Bool.{Bool}

@@ -1,5 +1,7 @@
 // The simulator's call, with a record table of the caller's own. Document 02, No. 12. It has no condition on its caller: every job, room, table and limit gets the
 // answer that slow_rest's specs define. That two outcomes are one is proved here. Rests on call_intake, where the record table has its part, and on slow_rest.
+#![tactic(auto)]
+
 ghost use Rattle.slow_rest.specs.Counted.{Counted};
 
 use call_intake::receive;

@@ -1,9 +1,11 @@
 // What a pass of the slow engine reads and writes in the lent work table: the labels that are to come, which stand where labels are saved, and the chains
 // by which an application is found by its arguments' labels of now. Document 02, No. 12. Rests on table (where things stand) and table_labels (labels and keys).
+#![tactic(auto)]
+
 ghost use Rattle.std.specs.Prelude.{◌≡◌, suc, ◌+◌, ◌*◌, ◌%◌, ◌≤◌, ◌<◌, length, set};
 ghost use Rattle.meaning.specs.Limits.{most_records, most_tags, named_numbers};
 ghost use Rattle.table.specs.Map.{next_of, head_of, saved_of};
-ghost use Rattle.table.specs.Places.{HEADS, Large, NEXT, head_count};
+ghost use Rattle.table.specs.Places.{HEADS, Large, NEXT as next_region, head_count};
 ghost use Rattle.table_labels.specs.Chain.{seek_to, hits};
 ghost use Rattle.table_labels.specs.Parts.{Own};
 ghost use Rattle.slow_chain.specs.Parts.{Raised, Lowered, Preserved, Restored, Cleared, NewLabelled};
@@ -79,7 +81,7 @@ pub fn clear(work: &mut [u16])
 // Place i goes to the head of a bucket's chain.
 pub fn insert(work: &mut [u16], b: usize, i: usize)
     requires { Large work.old × (b < head_count) × (i < most_records) × (head_of work.old b ≤ most_records) }
-    ensures { work.new ≡ set (set work.old (NEXT.at + i) (head_of work.old b)) (HEADS.at + b) (i + 1) }
+    ensures { work.new ≡ set (set work.old (next_region.at + i) (head_of work.old b)) (HEADS.at + b) (i + 1) }
 {
     let old = table::head(work, b);
     table::put_next(work, i, old);
@@ -111,7 +113,7 @@ fn seek(work: &[u16], size: usize, len: usize, from: usize, x: usize) -> usize
 }
 
 // Where the record at a place belongs by its key: the bucket, and the first link there whose record has the same key, or 0.
-#[derive(Drop)]
+#[derive(Clone, Copy)]
 pub struct Spot {
     pub bucket: usize,
     pub link: usize,

@@ -2,8 +2,8 @@
 use Prim.Native.Nat.{ℕ, suc, ◌+◌, ◌-◌, ◌*◌, ◌%◌, ◌≤◌, ◌<◌}
 use native.Mathlib.Omega.{arith}
 use native.Mathlib.Numerals.{add-one}
-use mathlib.Core.Path.{◌≡◌, refl, sym, ap, ap₂, ◌∙◌, fun_ext}
-use mathlib.Core.Logic.{◌≢◌, ◌⊎◌, inl, inr}
+use mathlib.Core.Path.{◌≡◌, refl, sym, ap, ap₂, ◌∙◌, fun_ext, subst}
+use mathlib.Core.Logic.{◌⊎◌, inl, inr}
 use mathlib.Core.Bool.{Bool, true, false, true≢false}
 use mathlib.Core.List.{List}
 use lib.ListN.{length, set}
@@ -90,7 +90,7 @@ module _ {N len n i : ℕ} {w w' : List ℕ} {x y : ℕ} {joined : Bool} (s : St
     labels = m.united.labels;
     own = m.own;
     keeps = λ a b q. m.united.keeps a b (g.keeps a b (rw (label f) at q));
-    sound = λ a b q. rw (all_same f len) (sound a b (m.united.only a b q));
+    sound = λ a b q. subst (λ (S : Rec → Type 0). After S (suc n) a b) (sym (all_same f len)) (sound a b (m.united.only a b q));
     chains = rw (eqns f, heads, nexts) (chains-up (omega arith) g.chains);
     filled = rw (eqns f, keys f, heads, nexts) h;
     equal = rw (lefts (columns f), rights (columns f), results (columns f)) (below (λ j. eqn_of w j ≡ true → saved_of w' (left_of w (suc j)) ≡ saved_of w' (right_of w (suc j))) i equal-more e);
@@ -145,7 +145,7 @@ module _ {N len n i : ℕ} {w w' : List ℕ} (s : Stepping N len n w i) (q : eqn
       labels = rw saved g.labels;
       own = rw saved g.own;
       keeps = rw (label fi, saved) g.keeps;
-      sound = rw (all_same fi len, saved) g.sound;
+      sound = subst (λ (S : Rec → Type 0). (x y : ℕ) → saved_of w' x ≡ saved_of w' y → After S (suc n) x y) (sym (all_same fi len)) (rw saved g.sound);
       chains = rw (eqns fi, in-heads, in-nexts) (chains-insert head_count (eqn_of w) (key_of w) (new_res w) (head_of w) (next_of w) i g.chains q);
       filled = rw (eqns fi, keys fi, ress, in-heads, in-nexts) (filled-insert head_count (eqn_of w) (key_of w) (new_res w) (head_of w) (next_of w) i g.chains q z g.filled);
       equal = rw (lefts (columns fi), rights (columns fi), results (columns fi), saved) (below (λ j. eqn_of w j ≡ true → saved_of w (left_of w (suc j)) ≡ saved_of w (right_of w (suc j))) i g.equal (λ r. absurd (true≢false (sym r ∙ q))));

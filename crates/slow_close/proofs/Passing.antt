@@ -1,14 +1,14 @@
 -- Pass after pass: the labels are those of `After`, all passes so far changed something, and so there are at most N-1. Assumes nothing.
-use Prim.Native.Nat.{ℕ, suc, min, ◌+◌, ◌≤◌, ◌<◌}
+use Prim.Native.Nat.{ℕ, suc, ◌+◌, ◌≤◌, ◌<◌}
 use native.Mathlib.Omega.{arith}
 use native.Mathlib.Numerals.{add-one}
 use native.Mathlib.Decide.{ℕ_discrete}
-use mathlib.Core.Path.{◌≡◌, refl, sym, ◌∙◌, fun_ext}
+use mathlib.Core.Path.{◌≡◌, refl, sym, ◌∙◌, fun_ext, subst}
 use mathlib.Core.Logic.{inl}
 use mathlib.Core.Bool.{Bool, true, false}
 use mathlib.Core.List.{List}
 use lib.ListN.{length, get_or}
-use Rattle.meaning.specs.Following.{eq}
+use Rattle.meaning.specs.Following.{Rec, eq}
 use Rattle.meaning.proofs.Reference.{Small}
 use Rattle.table.specs.Map.{label_of, saved_of, rec_at, records_in, Loaded, Within}
 use Rattle.table.specs.Places.{LABEL, NEXT, PARENT, SAVED, SINCE, all_of, from_to}
@@ -38,7 +38,7 @@ turned {N} {len} {n} {w} {a} {b} {w'} {j} p d r = record {
     loaded = loaded-same columns d.frozen.loaded;
     labels = rw r.labels d.labels;
     own = rw r.labels d.own;
-    exact = rw (all-wide r.frame len, r.labels) d.exact;
+    exact = subst (λ (S : Rec → Type 0). Exact (After S (suc n)) (label_of w')) (sym (all-wide r.frame len)) (rw r.labels d.exact);
   };
   still = λ q. r.labels ∙ d.still q ∙ seen-within LABEL d.kept (inl (omega arith)) ∙ seen-within LABEL p.frame (inl (omega arith));
   moved = λ q. rw (← all_same (within_wider pass_part (omega arith) (omega arith) p.frame) len, ← all_same d.kept len) (d.moved q);
@@ -98,7 +98,7 @@ module _ {N len most n : ℕ} {w w' w'' : List ℕ} {j : Bool} (b : Between N le
 
   -- Nothing changed.
   next-exact : j ≡ false → Exact (After (All len w) (suc n)) (label_of w')
-  next-exact q = rw (← all-wide kept_on len, ← t.still q) t.frozen.exact
+  next-exact q = subst (λ (S : Rec → Type 0). Exact (After S (suc n)) (label_of w')) (all-wide kept_on len) (rw (← t.still q) t.frozen.exact)
 
   no_change : j ≡ false → Changes (All len w) n → ⊥
   no_change q c = c.apart ((now-exact b c.one c.other).1 ((next-exact q c.one c.other).0 c.together))

@@ -1,5 +1,7 @@
 // The closure of all records as passes, so many as are asked for. Document 02, No. 12. The labels stay as they are during a pass; an application is
 // looked up by them, and what is joined are the labels to come. Rests on slow_passes (what a pass is), table and slow_chain.
+#![tactic(auto)]
+
 ghost use Rattle.std.specs.Prelude.{◌≡◌, true, false, suc, ◌≤◌, ◌<◌};
 ghost use Rattle.meaning.specs.Labels.{Labels};
 ghost use Rattle.meaning.specs.Limits.{most_tags};
@@ -13,7 +15,7 @@ use meaning::{RecordNo, Tag};
 use slow_chain::number;
 
 // Which pass is made: of so many tags and records, when so many passes have been.
-#[derive(Drop)]
+#[derive(Clone, Copy)]
 pub struct Round {
     pub size: usize,
     pub len: usize,

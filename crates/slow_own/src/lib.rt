@@ -1,6 +1,8 @@
 // The simulator's call for a caller that holds no record table: it lends one of its own, 4,000 places that are blank. Document 02, No. 12. No call has a condition on
 // its caller. `passes_over` lends places that all hold a record of the caller's choice, for tests with a dirty table. Rests on haltzurme_own, where that table has its
 // part, and on slow_rest.
+#![tactic(auto)]
+
 ghost use Rattle.std.specs.Prelude.{◌≡◌, true, false};
 ghost use Rattle.records.specs.Table.{blank};
 ghost use Rattle.slow_own.specs.Plain.{CountedOver, CountedAlone};

@@ -5,12 +5,11 @@ use native.Mathlib.Omega.{arith}
 use mathlib.Core.Path.{◌≡◌, refl, sym, ◌∙◌, ap, subst}
 use mathlib.Core.Bool.{Bool, true, false}
 use mathlib.Core.Logic.{◌⊎◌, inl, inr}
-use mathlib.Core.List.{List, [], ◌++◌}
+use mathlib.Core.List.{List, ◌++◌}
 use lib.ListN.{length, drop}
-use Rattle.meaning.specs.Following.{Rec}
 use Rattle.meaning.specs.Limits.{named_numbers}
-use Rattle.job_field.specs.Items.{Head, Item, Reading, accepted, head_of, records_of}
-use Rattle.job_field.specs.Reading.{reading, field_standing, units_stated}
+use Rattle.job_field.specs.Items.{records_of}
+use Rattle.job_field.specs.Reading.{field_standing, units_stated}
 use Rattle.job_field.specs.Standing.{Job}
 use Rattle.job_field.proofs.Standing.{accepted-stands}
 use Rattle.table.specs.Map.{records_in, Loaded}

@@ -1,5 +1,7 @@
 // The rest of the simulator's call once the record table has had its part. Document 02, No. 12; document 01, "What is lent, and each refusal". Rests on
 // call_look and slow_answer.
+#![tactic(auto)]
+
 ghost use Rattle.std.specs.Prelude.{◌≡◌};
 ghost use Rattle.call_look.specs.Begun.{Begun};
 ghost use Rattle.slow_rest.specs.Rest.{Fitted, Rested};

@@ -1,5 +1,7 @@
 // Labels: the loops that write them in the lent work table, and the key by which an application is found. Document 01, "Tags, records, following".
 // Rests on meaning (labels) and table (where things stand).
+#![tactic(auto)]
+
 ghost use Rattle.std.specs.Prelude.{◌≡◌, map, ◌≤◌, ◌<◌, eqb, length};
 ghost use Rattle.meaning.specs.Labels.{into};
 ghost use Rattle.meaning.specs.Limits.{most_tags};

@@ -1,7 +1,11 @@
 // tagpasses: reads a job from standard input, closes all its records by passes, and writes the line `P count` with the leader of every tag behind it, or the line of a
 // refusal. Document 02, No. 12. Its one argument is the limit, or the word --watch: then each pass that changes something has a line of its own before that, with the
 // classes that it changed. It only reads, calls and writes: the calls are slow_own's. Rests on that, on text, text_line and console.
-use console::{Got, read_input, write_error, write_output_front};
+#![tactic(auto)]
+
+use console::{
+    Got, is_given, read_argument, read_input, write_error, write_failure, write_output_front,
+};
 use slow_own::{count_passes, watch_passes};
 use text::{Told, tell_refusal};
 use text_line::{put, put_number, put_parted};
@@ -41,9 +45,9 @@ fn put_leaders(out: &mut [u8], from: usize, room: &[u8], tags: usize) -> usize {
 }
 
 // A whole line goes to standard output.
-fn write(text: &[u8], n: usize) {
-    if !write_output_front(text, n) {
-        write_error(b"tagpasses: standard output cannot be written\n");
+fn write(rt: &HostRuntime, text: &[u8], n: usize) {
+    if !write_output_front(rt, text, n) {
+        write_error(rt, b"tagpasses: standard output cannot be written\n");
     }
 }
 
@@ -56,42 +60,42 @@ fn tags_of(job: &[u8]) -> usize {
 }
 
 // The count, and the leaders.
-fn tell(room: &[u8], tags: usize, passes: usize) {
+fn tell(rt: &HostRuntime, room: &[u8], tags: usize, passes: usize) {
     let mut space = [0u8; LINE];
     let text: &mut [u8] = &mut space;
     let first = put(text, 0, b'P');
     let second = put_parted(text, first, passes);
     let third = put_leaders(text, second, room, tags);
     let end = put(text, third, b'\n');
-    write(text, end);
+    write(rt, text, end);
 }
 
 // The line of a refusal; 60 bytes hold the longest.
-fn refuse(number: u8, place: usize) {
+fn refuse(rt: &HostRuntime, number: u8, place: usize) {
     let mut space = [0u8; 60];
     let text: &mut [u8] = &mut space;
     let told = tell_refusal(number, place, text);
     match told {
         Told::Whole(n) => {
-            write(text, n);
+            write(rt, text, n);
         }
         Told::Full => {
-            write_error(b"tagpasses: the line does not fit\n");
+            write_error(rt, b"tagpasses: the line does not fit\n");
         }
     }
 }
 
 // Lends the call its room and the work table.
-fn count(job: &[u8], limit: usize) {
+fn count(rt: &HostRuntime, job: &[u8], limit: usize) {
     let mut room_space = [0u8; ROOM];
     let room: &mut [u8] = &mut room_space;
     let mut work_space = [0u16; 32768];
     let work: &mut [u16] = &mut work_space;
     let c = count_passes(job, room, work, limit);
     if c.number != 0 {
-        refuse(c.number, c.place);
+        refuse(rt, c.number, c.place);
     } else {
-        tell(room, tags_of(job), c.passes);
+        tell(rt, room, tags_of(job), c.passes);
     }
 }
 
@@ -167,7 +171,7 @@ fn put_classes(out: &mut [u8], from: usize, marks: &[u8], now: &[u8], tags: usiz
 }
 
 // The line of pass n: the classes that it changed.
-fn show(n: usize, before: &[u8], now: &[u8], tags: usize) {
+fn show(rt: &HostRuntime, n: usize, before: &[u8], now: &[u8], tags: usize) {
     let mut mark_space = [0u8; NEVER];
     let marks: &mut [u8] = &mut mark_space;
     mark_all(marks, before, now, tags);
@@ -177,7 +181,7 @@ fn show(n: usize, before: &[u8], now: &[u8], tags: usize) {
     let second = put(text, first, b':');
     let third = put_classes(text, second, marks, now, tags);
     let end = put(text, third, b'\n');
-    write(text, end);
+    write(rt, text, end);
 }
 
 // Byte i of what is now comes to be that of what was before.
@@ -199,22 +203,29 @@ fn copy_all(before: &mut [u8], now: &[u8]) {
 }
 
 // One pass more, and its line. Whether it changed something.
-fn next(job: &[u8], before: &mut [u8], now: &mut [u8], work: &mut [u16], n: usize) -> bool {
+fn next(
+    rt: &HostRuntime,
+    job: &[u8],
+    before: &mut [u8],
+    now: &mut [u8],
+    work: &mut [u16],
+    n: usize,
+) -> bool {
     let c = watch_passes(job, now, work, n);
     if c.passes != n {
         return false;
     }
-    show(n, before, now, tags_of(job));
+    show(rt, n, before, now, tags_of(job));
     copy_all(before, now);
     true
 }
 
 // Pass after pass until one changes nothing; then the count and the leaders.
-fn watch_all(job: &[u8], before: &mut [u8], now: &mut [u8], work: &mut [u16]) {
+fn watch_all(rt: &HostRuntime, job: &[u8], before: &mut [u8], now: &mut [u8], work: &mut [u16]) {
     let mut n: usize = 0;
     while n < NEVER {
-        if !next(job, before, now, work, n + 1) {
-            tell(before, tags_of(job), n);
+        if !next(rt, job, before, now, work, n + 1) {
+            tell(rt, before, tags_of(job), n);
             return;
         }
         n += 1;
@@ -222,7 +233,7 @@ fn watch_all(job: &[u8], before: &mut [u8], now: &mut [u8], work: &mut [u16]) {
 }
 
 // Begins with the single classes, after no pass.
-fn watch(job: &[u8]) {
+fn watch(rt: &HostRuntime, job: &[u8]) {
     let mut before_space = [0u8; ROOM];
     let before: &mut [u8] = &mut before_space;
     let mut now_space = [0u8; ROOM];
@@ -231,45 +242,45 @@ fn watch(job: &[u8]) {
     let work: &mut [u16] = &mut work_space;
     let c = watch_passes(job, before, work, 0);
     if c.number != 0 {
-        refuse(c.number, c.place);
+        refuse(rt, c.number, c.place);
     } else {
-        watch_all(job, before, now, work);
+        watch_all(rt, job, before, now, work);
     }
 }
 
 // What is asked for: a limit, or to watch.
-#[derive(Drop)]
+#[derive(Clone, Copy)]
 struct Ask {
     watch: bool,
     limit: usize,
 }
 
 // The bytes that were read are the job. More than were lent are never read: console's contract.
-fn serve(job: &[u8], ask: Ask) {
+fn serve(rt: &HostRuntime, job: &[u8], ask: Ask) {
     if ask.watch {
-        watch(job);
+        watch(rt, job);
     } else {
-        count(job, ask.limit);
+        count(rt, job, ask.limit);
     }
 }
 
-fn front(kept: &[u8], n: usize, ask: Ask) {
+fn front(rt: &HostRuntime, kept: &[u8], n: usize, ask: Ask) {
     if n <= kept.len() {
-        serve(&kept[..n], ask);
+        serve(rt, &kept[..n], ask);
     }
 }
 
 // Keeps at most 54,511 bytes of standard input, one more than the longest job allowed.
-fn read_and_serve(ask: Ask) {
+fn read_and_serve(rt: &HostRuntime, ask: Ask) {
     let mut space = [0u8; 54511];
     let kept: &mut [u8] = &mut space;
-    let got = read_input(kept);
+    let got = read_input(rt, kept);
     match got {
         Got::Bytes(n) => {
-            front(kept, n, ask);
+            front(rt, kept, n, ask);
         }
         Got::Broken => {
-            write_error(b"tagpasses: standard input cannot be read\n");
+            write_error(rt, b"tagpasses: standard input cannot be read\n");
         }
     }
 }
@@ -303,26 +314,34 @@ fn limit_of(word: &[u8]) -> usize {
 }
 
 // Behind the program's own name stands one argument and no second.
-fn main() {
-    if os::arg_count() != 2 {
-        write_error(b"tagpasses: a number is wanted, the limit, or --watch\n");
+fn main(rt: HostRuntime) {
+    if !is_given(&rt, 1) || is_given(&rt, 2) {
+        write_error(
+            &rt,
+            b"tagpasses: a number is wanted, the limit, or --watch\n",
+        );
         return;
     }
-    let mut word = io::buffer();
-    let length = os::arg(1, &mut word);
-    if os::errno() != 0 {
-        os::fail(b"tagpasses: the limit");
-        return;
-    }
+    let mut word = [0u8; 4096];
+    let length = match read_argument(&rt, 1, &mut word) {
+        Ok(n) => n,
+        Err(e) => {
+            write_failure(&rt, b"tagpasses: the limit", &e);
+            return;
+        }
+    };
     let limit = limit_of(&word[..length]);
-    let watch = check::same(&word[..length], b"--watch");
+    let watch = &word[..length] == b"--watch".as_slice();
     if length == 0 {
-        write_error(b"tagpasses: a number is wanted, the limit, or --watch\n");
+        write_error(
+            &rt,
+            b"tagpasses: a number is wanted, the limit, or --watch\n",
+        );
     } else if watch {
-        read_and_serve(Ask { watch, limit });
+        read_and_serve(&rt, Ask { watch, limit });
     } else if limit > 999999 {
-        write_error(b"tagpasses: the limit is no number\n");
+        write_error(&rt, b"tagpasses: the limit is no number\n");
     } else {
-        read_and_serve(Ask { watch, limit });
+        read_and_serve(&rt, Ask { watch, limit });
     }
 }

@@ -2,7 +2,7 @@
 -- their report, byte by byte.
 -- Assumes nothing.
 use Rattle.std.specs.Prelude.{ℕ, Bool, List, [], ◌∷◌, ◌++◌, drop}
-use Rattle.job_field.specs.Items.{Head, Item, Reading, refused, accepted}
+use Rattle.job_field.specs.Items.{Item, Reading, refused, accepted}
 use Rattle.text_line.specs.Line.{line}
 use Rattle.text_field.specs.Fields.{line_of, width_of, totals_line}
 

@@ -1,5 +1,7 @@
 // The lines that tagcheck writes: those of a report, or the line of a refusal. Document 01, "The program". A job and its report go in, and the text comes
 // out in a room of bytes; nothing here reads or writes a file. Rests on job_field, job_read, text_line and text_field.
+#![tactic(auto)]
+
 ghost use Rattle.job_field.specs.Reading.{reading, head_in, items_in};
 ghost use Rattle.text_line.specs.Put.{Put};
 ghost use Rattle.text.specs.Lines.{lines_of, refusal_line, text_of};
@@ -13,7 +15,7 @@ use text_field::{passed, put_field};
 use text_line::put_pair;
 
 // What became of a text: all of it stands at the front of the room, and so many bytes it has; or it is longer than the room.
-#[derive(Drop)]
+#[derive(Clone, Copy)]
 pub enum Told {
     Whole(usize),
     Full,

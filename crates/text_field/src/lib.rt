@@ -1,5 +1,7 @@
 // What one field of a job adds to the text that tagcheck writes: the line of a question by its field of the report, and of the totals. Document 01,
 // "The program"; document 02, No. 1 and 9. Rests on meaning, job_field and text_line.
+#![tactic(auto)]
+
 ghost use Rattle.std.specs.Prelude.{◌≡◌, [], ◌∷◌, ◌+◌, ◌≤◌, min, length, cond, ◌&&◌, ◌||◌, eqb};
 ghost use Rattle.std.proofs.Math.Seq.{slice};
 ghost use Rattle.job_field.specs.Reading.{byte_at, number_at};
@@ -73,9 +75,7 @@ fn put_numbers(report: &[u8], from: usize, stop: usize, out: &mut [u8], at: usiz
 
 // The line of a reason: the numbers of the body of the report's first field, as far as they are there.
 fn put_reason(report: &[u8], s: usize, t: usize, out: &mut [u8], at: usize) -> usize
-    ensures* { do
-      let ns = numbers_in (body_of report.now)
-      Put (line 69 (s ∷ t ∷ length ns ∷ ns)) out.old at out.new result }
+    ensures { let ns = numbers_in (body_of report.now) in Put (line 69 (s ∷ t ∷ length ns ∷ ns)) out.old at out.new result }
 {
     let stop = width(report);
     let from = part_start(3, stop);
@@ -87,9 +87,7 @@ fn put_reason(report: &[u8], s: usize, t: usize, out: &mut [u8], at: usize) -> u
 
 // The line of an explain: a reason where the report's first field is of kind 84 hex.
 fn put_explain(report: &[u8], s: usize, t: usize, out: &mut [u8], at: usize) -> usize
-    ensures* { do
-      let ns = numbers_in (body_of report.now)
-      Put (explain_line s t (byte_at report.now 0) ns) out.old at out.new result }
+    ensures { let ns = numbers_in (body_of report.now) in Put (explain_line s t (byte_at report.now 0) ns) out.old at out.new result }
 {
     if byte(report, 0) == 0x84 {
         put_reason(report, s, t, out, at)
@@ -100,9 +98,7 @@ fn put_explain(report: &[u8], s: usize, t: usize, out: &mut [u8], at: usize) -> 
 
 // The line of a broken pair: its number, and the numbers of the body behind that, as far as they are there.
 fn put_breach(report: &[u8], out: &mut [u8], at: usize) -> usize
-    ensures* { do
-      let ns = numbers_in (part_of 5 report.now)
-      Put (line 67 (number_at report.now 3 ∷ length ns ∷ ns)) out.old at out.new result }
+    ensures { let ns = numbers_in (part_of 5 report.now) in Put (line 67 (number_at report.now 3 ∷ length ns ∷ ns)) out.old at out.new result }
 {
     let stop = width(report);
     let from = part_start(5, stop);
@@ -122,9 +118,7 @@ fn put_intact(out: &mut [u8], at: usize) -> usize
 
 // The line of a 06: a broken pair where the report's first field is of kind 86 hex.
 fn put_broken(report: &[u8], out: &mut [u8], at: usize) -> usize
-    ensures* { do
-      let ns = numbers_in (part_of 5 report.now)
-      Put (broken_line (byte_at report.now 0) (number_at report.now 3) ns) out.old at out.new result }
+    ensures { let ns = numbers_in (part_of 5 report.now) in Put (broken_line (byte_at report.now 0) (number_at report.now 3) ns) out.old at out.new result }
 {
     if byte(report, 0) == 0x86 {
         put_breach(report, out, at)
@@ -135,9 +129,7 @@ fn put_broken(report: &[u8], out: &mut [u8], at: usize) -> usize
 
 // The line of the leaders: the numbers of the body of the report's first field, as far as they are there.
 fn put_leaders(report: &[u8], s: usize, t: usize, out: &mut [u8], at: usize) -> usize
-    ensures* { do
-      let ns = numbers_in (body_of report.now)
-      Put (line 87 (s ∷ t ∷ ns)) out.old at out.new result }
+    ensures { let ns = numbers_in (body_of report.now) in Put (line 87 (s ∷ t ∷ ns)) out.old at out.new result }
 {
     let stop = width(report);
     let from = part_start(3, stop);
@@ -148,9 +140,7 @@ fn put_leaders(report: &[u8], s: usize, t: usize, out: &mut [u8], at: usize) -> 
 
 // The line of a why: the leaders where the report's first field is of kind 88 hex.
 fn put_why(report: &[u8], s: usize, t: usize, out: &mut [u8], at: usize) -> usize
-    ensures* { do
-      let ns = numbers_in (body_of report.now)
-      Put (why_line s t (byte_at report.now 0) ns) out.old at out.new result }
+    ensures { let ns = numbers_in (body_of report.now) in Put (why_line s t (byte_at report.now 0) ns) out.old at out.new result }
 {
     if byte(report, 0) == 0x88 {
         put_leaders(report, s, t, out, at)
@@ -247,9 +237,7 @@ fn put_answer(sheeted: bool, q: Query, report: &[u8], out: &mut [u8], at: usize)
 
 // The bytes of a question's fields that are there: its own, and that of its sheets where one is due.
 fn fields_width(sheeted: bool, report: &[u8]) -> usize
-    ensures* { do
-      let all = report.now
-      result ≡ min (field_width all + cond (sheets_due sheeted all) (field_width (behind_field all)) 0) (length all) }
+    ensures { let all = report.now in result ≡ min (field_width all + cond (sheets_due sheeted all) (field_width (behind_field all)) 0) (length all) }
 {
     let first = width(report);
     let rest = &report[first..];

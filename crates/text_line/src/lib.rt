@@ -1,4 +1,6 @@
 // A line of text, put into a room of bytes: a letter, and numbers in decimal. Document 01, "The program". Rests on nothing.
+#![tactic(auto)]
+
 ghost use Rattle.std.specs.Prelude.{◌≡◌, [], ◌∷◌, ◌+◌, ◌<◌};
 ghost use Rattle.text_line.specs.Digits.{digits};
 ghost use Rattle.text_line.specs.Put.{Put};

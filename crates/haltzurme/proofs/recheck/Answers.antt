@@ -1,0 +1,11 @@
+-- `recheck` meets its contract: what was received is what the rest of a recheck begins with, and both together make the recheck's promise.
+-- Assumes nothing.
+use Rattle.call_intake.proofs.Columns.{received-begun}
+use Rattle.haltzurme.proofs.Rechecked.{weighed-rechecked}
+use Rattle.haltzurme.proofs.recheck.Goals as goal
+
+pub weigh-requires : goal.weigh-requires
+weigh-requires c = received-begun c.receive-s.ensures
+
+pub returns : goal.returns
+returns c = weighed-rechecked c.args.job.now c.args.report.now c.args.records.now c.args.work.now c.receive-s.result c.receive-s.new.records c.receive-s.new.work c.receive-s.ensures _ _ _ c.weigh.ensures

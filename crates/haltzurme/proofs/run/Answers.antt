@@ -1,0 +1,11 @@
+-- `run` meets its contract: what was received is what the rest of a run begins with, and both together make the run's promise.
+-- Assumes nothing.
+use Rattle.call_intake.proofs.Columns.{received-begun}
+use Rattle.haltzurme.proofs.Ran.{finished-ran}
+use Rattle.haltzurme.proofs.run.Goals as goal
+
+pub finish-requires : goal.finish-requires
+finish-requires c = received-begun c.receive-s.ensures
+
+pub returns : goal.returns
+returns c = finished-ran c.args.job.now c.args.room.now c.args.records.now c.args.work.now c.receive-s.result c.receive-s.new.records c.receive-s.new.work c.receive-s.ensures _ _ _ _ _ c.finish.ensures

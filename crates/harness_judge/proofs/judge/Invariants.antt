@@ -1,0 +1,12 @@
+-- `harness_judge::judge` meets its contract. The loop's invariant: the fields before the place are right, so that what is left decides the
+-- whole. The measure is what is left of the job. Assumes nothing.
+use Prim.Native.Nat.{◌-◌}
+use lib.ListN.{length}
+use Rattle.harness_judge.proofs.Going.{Judging}
+use Rattle.harness_judge.proofs.judge.Given as goal
+
+abbrev pub invariant-loop-t : goal.invariant-loop-t
+invariant-loop-t l = Judging l.job l.report l.initial.work l.work l.closed l.s
+
+abbrev pub decreases-loop-t : goal.decreases-loop-t
+decreases-loop-t l = length l.job - l.s.at

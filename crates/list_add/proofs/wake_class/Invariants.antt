@@ -1,0 +1,12 @@
+-- `wake_class` meets its contract: each turn wakes those that use one more tag, on the way back to x. Assumes nothing.
+use Rattle.list_ways.specs.Rings.{away}
+use Rattle.list_add.proofs.Seeks.{Rousing}
+use Rattle.meaning.specs.Limits.{most_tags}
+use Rattle.table.specs.Map.{member_of}
+use Rattle.list_add.proofs.wake_class.Given as goal
+
+abbrev pub invariant-loop-z : goal.invariant-loop-z
+invariant-loop-z l = Rousing l.initial.work l.work l.x.0 l.z.0 l.last l.made
+
+abbrev pub decreases-loop-z : goal.decreases-loop-z
+decreases-loop-z l = away (member_of l.initial.work) l.x.0 most_tags l.z.0

@@ -1,0 +1,10 @@
+-- `table::listed` meets its contract: what stands at the place is what its region is seen to hold there.
+-- Assumes nothing.
+use mathlib.Core.Path.{sym, ◌∙◌}
+use native.Mathlib.Omega.{arith}
+use Rattle.table.proofs.Frame.{seen_at}
+use Rattle.table.specs.Places.{LIST}
+use Rattle.table.proofs.listed.Goals as goal
+
+pub returns : goal.returns
+returns c = c.record_in.ensures ∙ sym (seen_at LIST c.args.work.now c.args.i (omega (arith, c.requires)))

@@ -1,0 +1,12 @@
+-- `table::result` meets its contract: what stands at the place is what its region is seen to hold there.
+-- Assumes nothing.
+use Prim.Native.Nat.{ℕ, ◌+◌}
+use lib.ListN.{get_or}
+use mathlib.Core.Path.{sym, ◌∙◌, ap}
+use native.Mathlib.Omega.{arith}
+use Rattle.table.proofs.Frame.{seen_at}
+use Rattle.table.specs.Places.{RESULT}
+use Rattle.table.proofs.result.Goals as goal
+
+pub returns : goal.returns
+returns c = c.tag_in.ensures ∙ ap (λ (k : ℕ). get_or c.args.work.now (RESULT.at + k) 0) c.place-k.ensures ∙ sym (seen_at RESULT c.args.work.now c.args.r.0 (omega (arith, c.requires)))

@@ -1,0 +1,10 @@
+-- `table::when` meets its contract: what stands at the place is what its region is seen to hold there.
+-- Assumes nothing.
+use mathlib.Core.Path.{sym, ◌∙◌}
+use native.Mathlib.Omega.{arith}
+use Rattle.table.proofs.Frame.{seen_at}
+use Rattle.table.specs.Places.{WHEN}
+use Rattle.table.proofs.when.Goals as goal
+
+pub returns : goal.returns
+returns c = c.record_in.ensures ∙ sym (seen_at WHEN c.args.work.now c.args.i (omega (arith, c.requires)))
