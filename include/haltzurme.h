@@ -1,4 +1,4 @@
-/* Haltzurme from C and C++. Link with target/staticlib/libhaltzurme_c.a, which `rt staticlib haltzurme_c` writes (x86-64); `./tagcheck --install DIR` copies both.
+/* Haltzurme from C and C++. Link with target/staticlib/libhaltzurme_c.a, which `.ci/build haltzurme_c` writes (x86-64); `./tagcheck --install DIR` copies both.
  *
  * All functions take any contents and any lengths, and answer one of the documents' numbers. After HALTZURME_LONG and HALTZURME_NARROW nothing lent has changed; after any
  * other answer the first HALTZURME_WORK numbers of the work table are zero and the rest is as it was.
@@ -55,7 +55,7 @@ enum haltzurme_limit {
     HALTZURME_LONGEST_SCRIPT = 60000,   /* bytes of a script */
     HALTZURME_LONGEST_REPORT = 8000007, /* bytes that are enough room for every job */
     HALTZURME_WORK = 32768,             /* numbers of the work table */
-    HALTZURME_STACK = 81920             /* bytes of stack that a call may need, with a margin: bench/stack measures 64,792 on the deepest jobs */
+    HALTZURME_STACK = 81920             /* bytes of stack that a call may need, with a margin: bench/stack measures 40,712 on the deepest jobs */
 };
 
 /* The kinds of a field, of a job and of a report. */
