@@ -1,7 +1,7 @@
 #!/usr/bin/env python3
 """Spells the repository's own definitions and lemmas as today's Rattle does: words in snake case, where port.py left camel case.
 
-usage: python3 tools/respell.py        at the top of the repository, once, right after /opt/rattle/port/port.py
+usage: python3 tools/respell.py        at the top of the repository, once, right after the kit's port/port.py
 
 It goes by the names that the .antt files declare: each part of a name between two dashes, as labelOf in labelOf-map, becomes label_of. It rewrites
 the .antt and .rt files (outside of strings), the must-fail edits and the pages; it changes no function of src/, no exported name and no string. A name
