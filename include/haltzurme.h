@@ -55,7 +55,7 @@ enum haltzurme_limit {
     HALTZURME_LONGEST_SCRIPT = 60000,   /* bytes of a script */
     HALTZURME_LONGEST_REPORT = 8000007, /* bytes that are enough room for every job */
     HALTZURME_WORK = 32768,             /* numbers of the work table */
-    HALTZURME_STACK = 81920             /* bytes of stack that a call may need, with a margin: bench/stack measures 40,712 on the deepest jobs */
+    HALTZURME_STACK = 81920             /* bytes of stack that a call may need, with a margin: bench/stack measures 40,680 on the deepest jobs */
 };
 
 /* The kinds of a field, of a job and of a report. */

@@ -9,11 +9,13 @@
 ghost use Rattle.std.specs.Prelude.{◌≡◌, true, false, ◌≤◌, ◌<◌, length, ◌↔◌};
 ghost use Rattle.table.specs.Map.{Loaded};
 ghost use Rattle.table.specs.Places.{Large};
+ghost use Rattle.table_labels.specs.Chain.{as_link};
 ghost use Rattle.all_index.specs.State.{eqn_at};
 ghost use Rattle.all_close.specs.Closing.{Closing};
 ghost use Rattle.all_close.specs.State.{Between, Coming, Looked, Again, Entered, Equated, Admitted, Wiped, Unlinked, Begun};
 
 use all_index::Front;
+use all_join::Grounds;
 use all_settle::Progress;
 use meaning::NO_RECORD;
 
@@ -56,13 +58,17 @@ fn equate(work: &mut [u16], front: Front, i: usize, joins: usize) -> Progress
     let x = table_labels::key(work, r);
     let a = table::tag_at(x / 65536);
     let b = table::tag_at(x % 65536);
-    if a.is(b) {
+    if a == b {
         return Progress {
             joins: joins,
             first: 0,
         };
     }
-    let first = all_join::join(work, front, joins, 0, r, NO_RECORD, a, b);
+    let grounds = Grounds {
+        one: r,
+        other: NO_RECORD,
+    };
+    let first = all_join::join(work, front, joins, 0, grounds, a, b);
     Progress {
         joins: joins + 1,
         first: first,
@@ -70,16 +76,18 @@ fn equate(work: &mut [u16], front: Front, i: usize, joins: usize) -> Progress
 }
 
 // Whether the application at place i, which is to come in, is idle: p is what the chains have for its arguments' labels, and has its result's label.
-fn again(work: &[u16], front: Front, p: usize, i: usize) -> bool
-    requires { Looked front work.now i p }
+fn again(work: &[u16], front: Front, p: Option<usize>, i: usize) -> bool
+    requires { Looked front work.now i (as_link p) }
     ensures { (result ≡ true) ↔ Again work.now i }
 {
-    if p == 0 {
-        return false;
+    match p {
+        None => false,
+        Some(p) => {
+            let c = all_settle::outcome(work, all_index::number(p));
+            let d = all_settle::outcome(work, all_index::number(i));
+            c == d
+        }
     }
-    let c = all_settle::outcome(work, all_index::number(p - 1));
-    let d = all_settle::outcome(work, all_index::number(i));
-    c.is(d)
 }
 
 // The application at place i comes in, and what waits then is met. It is looked up once, before it is in: that tells whether it is idle, and where it goes.
@@ -88,20 +96,13 @@ fn admit_application(work: &mut [u16], front: Front, i: usize, joins: usize) -> 
     ensures { Admitted front.size front.len i work.old joins work.new result.joins result.idle }
 {
     let x = table_labels::key(work, all_index::number(i));
-    let before = Front {
-        size: front.size,
-        len: front.len,
-        places: i,
-    };
+    let before = Front { places: i, ..front };
     let p = all_settle::look_up(work, before, x);
     let idle = again(work, front, p, i);
     enter(work, front, i, joins);
     let q = all_settle::resolve(work, front, x, p, i, joins);
     let after = all_settle::settle(work, front, q.joins, q.first);
-    Came {
-        joins: after,
-        idle: idle,
-    }
+    Came { joins: after, idle }
 }
 
 // The equation at place i comes in, and what waits then is met. It is idle if it made no join itself.
@@ -112,22 +113,14 @@ fn admit_equation(work: &mut [u16], front: Front, i: usize, joins: usize) -> Cam
     let q = equate(work, front, i, joins);
     let idle = q.joins == joins;
     let after = all_settle::settle(work, front, q.joins, q.first);
-    Came {
-        joins: after,
-        idle: idle,
-    }
+    Came { joins: after, idle }
 }
 
 // Record number i + 1 comes in, where all records before it hold.
-fn admit(work: &mut [u16], size: usize, len: usize, i: usize, joins: usize) -> Came
-    requires { Between size len i work.old joins × (i < len) }
-    ensures { Admitted size len i work.old joins work.new result.joins result.idle }
+fn admit(work: &mut [u16], front: Front, i: usize, joins: usize) -> Came
+    requires { Coming front work.old i joins }
+    ensures { Admitted front.size front.len i work.old joins work.new result.joins result.idle }
 {
-    let front = Front {
-        size: size,
-        len: len,
-        places: i + 1,
-    };
     if table::is_equation(work, all_index::number(i)) {
         return admit_equation(work, front, i, joins);
     }
@@ -139,7 +132,7 @@ fn unlink(work: &mut [u16])
     requires { Large work.old }
     ensures { Unlinked work.old work.new }
 {
-    table_labels::fill(&mut work[table::AGE..table::FIRST], table::LEADS);
+    work[table::AGE..table::FIRST].fill(table::LEADS);
 }
 
 // Behind the records' columns nothing is left of what was lent.
@@ -147,7 +140,7 @@ fn wipe(work: &mut [u16])
     requires { Large work.old }
     ensures { Wiped work.old work.new }
 {
-    table_labels::fill(&mut work[table::PARENT..table::NAMED], 0);
+    work[table::PARENT..table::NAMED].fill(0);
 }
 
 // The work begins: behind the columns all is cleared before anything else is written there; then no tag is linked, each is its own label, and there
@@ -160,7 +153,7 @@ fn begin(work: &mut [u16])
     unlink(work);
     table_labels::count_up(&mut work[table::PARENT..table::AGE]);
     table_labels::fresh(work);
-    table_labels::fill(&mut work[table::CHAIN..table::NAMED], 0);
+    work[table::CHAIN..table::NAMED].fill(0);
 }
 
 // Closes records 1 to len of `size` tags, one after the other, and keeps the joins.
@@ -171,17 +164,17 @@ pub fn close(work: &mut [u16], size: usize, len: usize) -> Totals
     begin(work);
     let mut joins = 0;
     let mut idle = 0;
-    let mut i = 0;
-    while i < len {
-        let r = admit(work, size, len, i, joins);
+    for i in 0..len {
+        let front = Front {
+            size,
+            len,
+            places: i + 1,
+        };
+        let r = admit(work, front, i, joins);
         if r.idle {
             idle += 1;
         }
         joins = r.joins;
-        i += 1;
     }
-    Totals {
-        joins: joins,
-        idle: idle,
-    }
+    Totals { joins, idle }
 }

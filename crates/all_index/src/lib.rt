@@ -8,12 +8,14 @@ ghost use Rattle.std.specs.Prelude.{◌≡◌, ◌⊎◌, false, ℕ, suc, ◌%�
 ghost use Rattle.meaning.specs.Limits.{most_records, most_tags};
 ghost use Rattle.table.specs.Map.{left_of, right_of, label_of, use_of, more_of, chain_of, Within};
 ghost use Rattle.table.specs.Places.{Large, bucket_count, file_part};
-ghost use Rattle.table_labels.specs.Chain.{seek_to, hits};
+ghost use Rattle.table_labels.specs.Chain.{as_link, seek_to, hits};
 ghost use Rattle.all_index.specs.Filing.{On, link};
 ghost use Rattle.all_index.specs.Waiting.{waiting};
 ghost use Rattle.all_index.specs.State.{eqn_at, key_at, found_in, Filing, Queued, Indexed, Touched, behind_in, Above, Led};
 
-use meaning::{RecordNo, Tag};
+use meaning::Tag;
+use table_labels::Chains;
+pub use table_labels::number;
 
 // The first `places` of the records 1 to `len` that the table holds of `size` tags are in.
 #[derive(Clone, Copy)]
@@ -26,28 +28,23 @@ pub struct Front {
 // The number of buckets.
 pub const BUCKET_COUNT: usize = 761;
 
-// The number of the record at a place.
-pub fn number(j: usize) -> RecordNo
-    requires { j < most_records }
-    ensures { result.0 ≡ suc j }
-{
-    table::record_at(j + 1)
+// The chains that applications are filed in.
+struct Filed;
+
+impl Chains for Filed {
+    ghost leads = { λ w. link (chain_of w) };
+
+    fn next(work: &[u16], j: usize) -> usize {
+        table::link(work, j)
+    }
 }
 
-// The first link of a chain whose record has the key x, or 0.
-pub fn seek(work: &[u16], front: Front, from: usize, x: usize) -> usize
+// The first place from a link on whose record has the key x.
+pub fn seek(work: &[u16], front: Front, from: usize, x: usize) -> Option<usize>
     requires { Filing front work.now × (from ≤ front.places) }
-    ensures { result ≡ seek_to (link (chain_of work.now)) (hits (key_at work.now) x) from }
+    ensures { as_link result ≡ seek_to (link (chain_of work.now)) (hits (key_at work.now) x) from }
 {
-    let mut p = from;
-    while p != 0 {
-        let r = number(p - 1);
-        if table_labels::key(work, r) == x {
-            return p;
-        }
-        p = table::link(work, p - 1);
-    }
-    0
+    table_labels::seek::<Filed>(work, from, x)
 }
 
 // The last link of a bucket's chain to a place above j, or 0.
@@ -144,8 +141,7 @@ fn touch_labelled(work: &mut [u16], front: Front, hi: Tag, x: Tag, first: usize)
     requires { Indexed front work.old first × (x.0 < most_tags) }
     ensures { Touched front work.old work.new result × ((j : ℕ) → j < front.places → eqn_at work.old j ≡ false → label_of work.old x.0 ≡ hi.0 → (left_of work.old (suc j) ≡ x.0) ⊎ (right_of work.old (suc j) ≡ x.0) → chain_of work.new j ≡ 0) }
 {
-    let l = table::label(work, x);
-    if l.is(hi) {
+    if table::label(work, x) == hi {
         return touch_tag(work, front, x, first);
     }
     first
@@ -163,12 +159,9 @@ pub fn touch_class(
     requires { Indexed front work.old first × (top.0 < most_tags) × ((x : ℕ) → label_of work.old x ≡ gone.0 → (from.0 ≤ x) × (x ≤ top.0)) }
     ensures { Touched front work.old work.new result × ((j : ℕ) → j < front.places → eqn_at work.old j ≡ false → (label_of work.old (left_of work.old (suc j)) ≡ gone.0) ⊎ (label_of work.old (right_of work.old (suc j)) ≡ gone.0) → chain_of work.new j ≡ 0) }
 {
-    let n = table::tag_place(top);
-    let mut x = table::tag_place(from);
     let mut to = first;
-    while x <= n {
+    for x in table::tag_place(from)..table::tag_place(top) + 1 {
         to = touch_labelled(work, front, gone, table::tag_at(x), to);
-        x += 1;
     }
     to
 }

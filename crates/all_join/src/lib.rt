@@ -23,21 +23,20 @@ struct Side {
     leader: Tag,
 }
 
-// The join of age `joins` is kept: it linked hi under lo, its records are two, and it was made at a third.
-fn note(
-    work: &mut [u16],
-    joins: usize,
-    first: RecordNo,
-    second: RecordNo,
-    when: RecordNo,
-    lo: Tag,
-    hi: Tag,
-)
+// The two records that a join rests on: an equation and none, or two applications.
+#[derive(Clone, Copy)]
+pub struct Grounds {
+    pub one: RecordNo,
+    pub other: RecordNo,
+}
+
+// The join of age `joins` is kept: it linked hi under lo, it rests on two records, and it was made at a third.
+fn note(work: &mut [u16], joins: usize, grounds: Grounds, when: RecordNo, lo: Tag, hi: Tag)
     requires { Large work.old × (hi.0 < most_tags) × (joins < most_tags) }
-    ensures { work.new ≡ noted work.old lo.0 hi.0 joins first.0 second.0 when.0 }
+    ensures { work.new ≡ noted work.old lo.0 hi.0 joins grounds.one.0 grounds.other.0 when.0 }
 {
     table::put_link(work, hi, lo, joins);
-    table::put_join(work, joins, first, second, when);
+    table::put_join(work, joins, grounds.one, grounds.other, when);
 }
 
 // The label `gone` becomes `kept`. No tag below `from` has it, nor one above `top`.
@@ -54,10 +53,7 @@ fn rename(work: &mut [u16], kept: Tag, gone: Tag, from: Tag, top: Tag)
 fn higher(a: Tag, b: Tag) -> Tag
     ensures { (a.0 ≤ result.0) × (b.0 ≤ result.0) × ((result.0 ≡ a.0) ⊎ (result.0 ≡ b.0)) }
 {
-    if a.below(b) {
-        return b;
-    }
-    a
+    if a < b { b } else { a }
 }
 
 // The first tag with the label r, which r has itself.
@@ -65,15 +61,11 @@ fn first_with(work: &[u16], r: Tag) -> Tag
     requires { Large work.now × (r.0 < most_tags) × (label_of work.now r.0 ≡ r.0) }
     ensures { (label_of work.now result.0 ≡ r.0) × ((y : ℕ) → y < result.0 → label_of work.now y ≢ r.0) }
 {
-    let n = table::tag_place(r);
-    let mut x: usize = 0;
-    while x < n {
+    for x in 0..table::tag_place(r) {
         let t = table::tag_at(x);
-        let l = table::label(work, t);
-        if l.is(r) {
+        if table::label(work, t) == r {
             return t;
         }
-        x += 1;
     }
     r
 }
@@ -113,27 +105,19 @@ fn joint(a: usize, b: usize) -> usize
 }
 
 // The classes led by x and y become one: the larger leader goes under the smaller, by a join that is kept.
-fn keep(
-    work: &mut [u16],
-    joins: usize,
-    one: RecordNo,
-    other: RecordNo,
-    when: RecordNo,
-    x: Tag,
-    y: Tag,
-)
+fn keep(work: &mut [u16], joins: usize, grounds: Grounds, when: RecordNo, x: Tag, y: Tag)
     requires { Large work.old × (x.0 < most_tags) × (y.0 < most_tags) × (joins < most_tags) }
-    ensures { Kept work.old work.new joins one.0 other.0 when.0 x.0 y.0 }
+    ensures { Kept work.old work.new joins grounds.one.0 grounds.other.0 when.0 x.0 y.0 }
 {
     let top = higher(table::parent(work, x), table::parent(work, y));
     let weight = joint(table::age(work, x), table::age(work, y));
     let mut lo = x;
     let mut hi = y;
-    if y.below(x) {
+    if y < x {
         lo = y;
         hi = x;
     }
-    note(work, joins, one, other, when, lo, hi);
+    note(work, joins, grounds, when, lo, hi);
     table::put_link(work, lo, top, weight);
 }
 
@@ -143,12 +127,11 @@ fn unite(
     front: Front,
     joins: usize,
     first: usize,
-    one: RecordNo,
-    other: RecordNo,
+    grounds: Grounds,
     kept: Side,
     gone: Side,
 ) -> usize
-    requires { Joining front work.old joins first one.0 other.0 kept.label.0 gone.label.0 × Named front work.old joins kept × Named front work.old joins gone }
+    requires { Joining front work.old joins first grounds.one.0 grounds.other.0 kept.label.0 gone.label.0 × Named front work.old joins kept × Named front work.old joins gone }
     ensures { Joined front work.old joins kept.label.0 gone.label.0 work.new result }
 {
     let n = front.places;
@@ -158,8 +141,7 @@ fn unite(
     keep(
         work,
         joins,
-        one,
-        other,
+        grounds,
         table::record_at(n),
         kept.leader,
         gone.leader,
@@ -173,7 +155,7 @@ fn is_fewer(work: &[u16], x: Tag, y: Tag) -> bool
 {
     let a = table::age(work, x);
     let b = table::age(work, y);
-    if a == b { y.below(x) } else { a < b }
+    if a == b { y < x } else { a < b }
 }
 
 // The classes labelled a and b become one, under the label of that with more tags.
@@ -182,12 +164,11 @@ pub fn join(
     front: Front,
     joins: usize,
     first: usize,
-    one: RecordNo,
-    other: RecordNo,
+    grounds: Grounds,
     a: Tag,
     b: Tag,
 ) -> usize
-    requires { Joining front work.old joins first one.0 other.0 a.0 b.0 }
+    requires { Joining front work.old joins first grounds.one.0 grounds.other.0 a.0 b.0 }
     ensures { Joined front work.old joins a.0 b.0 work.new result }
 {
     let x = class_of(work, front, joins, a);
@@ -198,5 +179,5 @@ pub fn join(
         kept = y;
         gone = x;
     }
-    unite(work, front, joins, first, one, other, kept, gone)
+    unite(work, front, joins, first, grounds, kept, gone)
 }

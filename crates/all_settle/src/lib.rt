@@ -8,10 +8,12 @@ ghost use Rattle.std.specs.Prelude.{◌≡◌, suc, ◌≤◌, ◌<◌, length};
 ghost use Rattle.meaning.specs.Limits.{most_records, most_tags};
 ghost use Rattle.table.specs.Map.{result_of, label_of, Within};
 ghost use Rattle.table.specs.Places.{Large, behind_columns};
+ghost use Rattle.table_labels.specs.Chain.{as_link};
 ghost use Rattle.all_index.specs.State.{found_in, Filing};
 ghost use Rattle.all_settle.specs.State.{Open, Sought, Unifying, Gone};
 
 use all_index::Front;
+use all_join::Grounds;
 use meaning::{RecordNo, Tag};
 
 // How far the closure is: the joins made, and one more than the first place that waits, or 0.
@@ -30,34 +32,32 @@ pub fn outcome(work: &[u16], r: RecordNo) -> Tag
     table::label(work, t)
 }
 
-// The application at place j, the first that waits, meets the one that the link p leads to: their results are joined unless they have one label.
+// The application at place j, the first that waits, meets the one at place p: their results are joined unless they have one label.
 fn unify(work: &mut [u16], front: Front, p: usize, j: usize, joins: usize) -> Progress
-    requires { Unifying front work.old p j joins }
+    requires { Unifying front work.old (suc p) j joins }
     ensures { Gone front work.old joins work.new result.joins result.first }
 {
-    let q = all_index::number(p - 1);
+    let q = all_index::number(p);
     let r = all_index::number(j);
     let c = outcome(work, q);
     let d = outcome(work, r);
-    if c.is(d) {
-        let next = table::wait_after(work, j);
+    if c == d {
+        let first = table::wait_after(work, j);
         table::put_chain(work, j, 0);
-        return Progress {
-            joins: joins,
-            first: next,
-        };
+        return Progress { joins, first };
     }
-    let first = all_join::join(work, front, joins, j + 1, q, r, c, d);
+    let grounds = Grounds { one: q, other: r };
+    let first = all_join::join(work, front, joins, j + 1, grounds, c, d);
     Progress {
         joins: joins + 1,
-        first: first,
+        first,
     }
 }
 
-// The link to the application that the chains have for the key x, or 0.
-pub fn look_up(work: &[u16], front: Front, x: usize) -> usize
+// The place of the application that the chains have for the key x.
+pub fn look_up(work: &[u16], front: Front, x: usize) -> Option<usize>
     requires { Filing front work.now }
-    ensures { result ≡ found_in work.now x }
+    ensures { as_link result ≡ found_in work.now x }
 {
     let from = table::bucket(work, x % all_index::BUCKET_COUNT);
     all_index::seek(work, front, from, x)
@@ -68,23 +68,22 @@ pub fn resolve(
     work: &mut [u16],
     front: Front,
     x: usize,
-    p: usize,
+    p: Option<usize>,
     j: usize,
     joins: usize,
 ) -> Progress
-    requires { Sought front work.old x p j joins }
+    requires { Sought front work.old x (as_link p) j joins }
     ensures { Gone front work.old joins work.new result.joins result.first }
 {
-    if p == 0 {
-        let b = x % all_index::BUCKET_COUNT;
-        let q = all_index::above(work, front, b, j);
-        let next = all_index::file(work, front, b, q, j);
-        return Progress {
-            joins: joins,
-            first: next,
-        };
+    match p {
+        Some(p) => unify(work, front, p, j, joins),
+        None => {
+            let b = x % all_index::BUCKET_COUNT;
+            let q = all_index::above(work, front, b, j);
+            let first = all_index::file(work, front, b, q, j);
+            Progress { joins, first }
+        }
     }
-    unify(work, front, p, j, joins)
 }
 
 // The application at place j, the first that waits, is met: it is looked up by its arguments' labels.

@@ -16,7 +16,8 @@ use Rattle.table.proofs.Frame.{length-gather, within-trans, within_wider}
 use Rattle.table.proofs.Kept.{records-same}
 use Rattle.table.specs.Places.{behind_columns}
 use Rattle.all_close.specs.Closing.{Closing}
-use Rattle.report.specs.Report.{numbers, field, total, totals, laid}
+use Rattle.report.specs.Report.{numbers, field, total, laid}
+use Rattle.profile.specs.Rules.{Rules, Laws}
 use Rattle.report.proofs.Bytes.{length-field, length-numbers}
 use Rattle.report.proofs.Laid.{length-laid, laid-front, laid_then}
 use Rattle.answer_all.specs.Asking.{Asking, Told, Ready, Responded}
@@ -38,18 +39,18 @@ module _ {job room w : List ℕ} {N len : ℕ} (r : Ready job room w N len) {w�
   pub idle-few : idle ≤ most_records
   idle-few = omega (arith, idles-most c.idles, length-gather (λ k. rec_at w₁ (suc k)) len, r.loaded.most)
 
-  module _ {H : Head} {w₂ room₁ : List ℕ} {end : ℕ} (t : Told job w₁ room H len joins w₂ room₁ end) where
+  module _ {R : Rules} (laws : Laws R) {H : Head} {w₂ room₁ : List ℕ} {end : ℕ} (t : Told R job w₁ room H len joins w₂ room₁ end) where
     pub told-room : end + 7 ≤ length room₁
     told-room = omega (arith, ap length t.front, length-laid 0 t.bytes room (omega (arith, t.reached, t.fits)), t.fits)
 
-    pub responded : (room₂ : List ℕ) → room₂ ≡ laid end (field 143 (numbers ((N - joins) ∷ idle ∷ []))) room₁ → Responded job room w room₂ w₂ (end + 7)
+    pub responded : (room₂ : List ℕ) → room₂ ≡ laid end (field 143 (numbers ((N - joins) ∷ idle ∷ []))) room₁ → Responded R job room w room₂ w₂ (end + 7)
     responded room₂ e =
         let body = numbers ((N - joins) ∷ idle ∷ []) in
         let f = field 143 body in
         let size : length f ≡ 7 = length-field 143 body ∙ rw (length-numbers ((N - joins) ∷ idle ∷ [])) (omega arith) in
         record {
           bytes = t.bytes ++ f;
-          sound = t.sound f (totals (total (rw (r.size, ← r.few, ← records-after) c.classes) (rw (← records-after) c.idles)));
+          sound = t.sound f (laws.totals (total (rw (r.size, ← r.few, ← records-after) c.classes) (rw (← records-after) c.idles)));
           size = rw (length-append, size, t.reached);
           front = e ∙ laid_then 0 end t.bytes f room room₁ (omega (arith, t.reached, t.fits)) (omega (arith, t.reached)) t.front ∙ laid-front (t.bytes ++ f) room;
           kept = within-trans (within_wider behind_columns (omega arith) (omega arith) c.kept) (within_wider behind_columns (omega arith) (omega arith) t.kept);

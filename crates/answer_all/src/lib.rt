@@ -1,6 +1,6 @@
 // The questions of an accepted job, answered one after the other: each by the joins that were made before it, as a field of the
-// report. Document 01, "The job and the report"; document 02, No. 1. Rests on job_field, all_close, report_write, moment, pairs, answer_ask, answer_explain,
-// answer_broken and answer_why.
+// report, for every profile. Document 01, "The job and the report"; document 02, No. 1. Rests on job_field, all_close, report_write, moment, pairs, profile, answer_ask,
+// answer_explain, answer_broken and answer_why.
 #![tactic(auto)]
 
 ghost use Rattle.std.specs.Prelude.{◌≡◌, ℕ, ◌+◌, ◌*◌, ◌-◌, ◌≤◌, ◌<◌, min, length};
@@ -8,7 +8,8 @@ ghost use Rattle.job_field.specs.Items.{start, needed_room};
 ghost use Rattle.job_field.specs.Reading.{head_in, items_in};
 ghost use Rattle.job_field.specs.Answer.{question_said, said};
 ghost use Rattle.moment.specs.Posed.{head_of};
-ghost use Rattle.answer_ask.specs.Facing.{Replied};
+ghost use Rattle.profile.specs.Plain.{plain_rules};
+ghost use Rattle.answer_broken.specs.Breach.{Replied};
 ghost use Rattle.answer_all.specs.Asking.{is_end_field, Asked, Asking, Meeting, Onward, Told, Ready, Responded};
 
 use all_close::close;
@@ -16,9 +17,10 @@ use answer_ask::answer_ask;
 use answer_broken::answer_broken;
 use answer_explain::answer_explain;
 use answer_why::answer_why;
-use job_field::{Field, Query, behind, pairs_in, read, sheeted, stands_for, units, wide};
+use job_field::{Fault, Field, Query, behind, pairs_in, read, sheeted, stands_for, units};
 use moment::Closed;
 use pairs::mark_note;
+use profile::{Plain, Profile};
 use report_write::write_totals;
 
 // How far the answers have come: the place in the job, the place in the room, and the records and the pairs that must differ passed.
@@ -31,7 +33,7 @@ pub struct Spot {
 }
 
 // A question, as a field at a place of the room; the place behind it.
-fn answer_question(
+fn answer_question<P: Profile>(
     q: Query,
     job: &[u8],
     room: &mut [u8],
@@ -41,20 +43,20 @@ fn answer_question(
     differs: usize,
     out: usize,
 ) -> usize
-    requires { Asked job.now work.old room.old (head_of c) c.len c.joins before differs out (question_said q) }
-    ensures { Replied job.now work.old room.old before differs out (question_said q) work.new room.new result }
+    requires { Asked job.now work.old room.old (head_of c) c.len c.joins before differs out (question_said q) × P.rules.Asks (items_in job.now) }
+    ensures { Replied P.rules job.now work.old room.old before differs out (question_said q) work.new room.new result }
 {
     match q {
         Query::Ask(s, t) => answer_ask(room, work, c, before, out, s, t),
-        Query::Explain(s, t) => answer_explain(job, room, work, c, before, out, s, t),
-        Query::Broken => answer_broken(job, room, work, c, before, differs, out),
+        Query::Explain(s, t) => answer_explain::<P>(job, room, work, c, before, out, s, t),
+        Query::Broken => answer_broken::<P>(job, room, work, c, before, differs, out),
         Query::Why(s, t) => answer_why(room, work, c, before, out, s, t),
     }
 }
 
 // One field of the job, with the place behind it: a note is passed, a question answered.
-fn answer_field(
-    field: Field,
+fn answer_field<P: Profile>(
+    field: Result<Field, Fault>,
     job: &[u8],
     room: &mut [u8],
     work: &mut [u16],
@@ -62,24 +64,24 @@ fn answer_field(
     p: Spot,
     next: usize,
 ) -> Spot
-    requires { Meeting job.now work.old room.old (head_of c) c.len c.joins p (said field) }
-    ensures { Onward job.now work.old room.old c.len next p result work.new room.new (said field) }
+    requires { Meeting job.now work.old room.old (head_of c) c.len c.joins p (said field) × P.rules.Asks (items_in job.now) }
+    ensures { Onward P.rules job.now work.old room.old c.len next p result work.new room.new (said field) }
 {
     let out = p.out;
     let before = p.before;
     let differs = p.differs;
     match field {
-        Field::Noted(l) => {
+        Ok(Field::Noted(l)) => {
             mark_note(l, work, c, differs);
             Spot {
                 at: next,
                 out,
-                before: before + wide(stands_for(l)),
-                differs: differs + wide(pairs_in(l)),
+                before: before + usize::from(stands_for(l)),
+                differs: differs + usize::from(pairs_in(l)),
             }
         }
-        Field::Posed(q) => {
-            let end = answer_question(q, job, room, work, c, before, differs, out);
+        Ok(Field::Posed(q)) => {
+            let end = answer_question::<P>(q, job, room, work, c, before, differs, out);
             Spot {
                 at: next,
                 out: end,
@@ -87,29 +89,23 @@ fn answer_field(
                 differs,
             }
         }
-        Field::Bad(_) => p,
-        Field::Header(_, _, _) => p,
-        Field::End => p,
+        Ok(Field::Header(_)) => p,
+        Ok(Field::End) => p,
+        Err(_) => p,
     }
 }
 
 // Whether the job ends with a field.
-fn is_end(field: Field) -> bool
+fn is_end(field: Result<Field, Fault>) -> bool
     ensures { result ≡ is_end_field (said field) }
 {
-    match field {
-        Field::Noted(_) => false,
-        Field::Posed(_) => false,
-        Field::Bad(_) => false,
-        Field::Header(_, _, _) => false,
-        Field::End => true,
-    }
+    matches!(field, Ok(Field::End))
 }
 
 // All questions of the job; the place in the room behind the last answer.
-pub fn answer_all(job: &[u8], room: &mut [u8], work: &mut [u16], c: Closed) -> usize
-    requires { Asking job.now work.old (head_of c) c.len c.joins × (needed_room (head_in job.now) start (items_in job.now) ≤ length room.old) }
-    ensures { Told job.now work.old room.old (head_of c) c.len c.joins work.new room.new result }
+pub fn answer_all<P: Profile>(job: &[u8], room: &mut [u8], work: &mut [u16], c: Closed) -> usize
+    requires { Asking job.now work.old (head_of c) c.len c.joins × (needed_room (head_in job.now) start (items_in job.now) ≤ length room.old) × P.rules.Asks (items_in job.now) }
+    ensures { Told P.rules job.now work.old room.old (head_of c) c.len c.joins work.new room.new result }
 {
     let mut p = Spot {
         at: behind(job, 0),
@@ -123,21 +119,27 @@ pub fn answer_all(job: &[u8], room: &mut [u8], work: &mut [u16], c: Closed) -> u
         if is_end(field) {
             return p.out;
         }
-        p = answer_field(field, job, room, work, c, p, behind(job, at));
+        p = answer_field::<P>(field, job, room, work, c, p, behind(job, at));
     }
 }
 
 // The whole report of a job whose records stand in the columns: they are closed, the questions answered and the totals written.
 // Answers the report's length.
-pub fn respond(job: &[u8], room: &mut [u8], work: &mut [u16], size: usize, len: usize) -> usize
-    requires { Ready job.now room.old work.old size len }
-    ensures { Responded job.now room.old work.old room.new work.new result }
+pub fn respond_by<P: Profile>(
+    job: &[u8],
+    room: &mut [u8],
+    work: &mut [u16],
+    size: usize,
+    len: usize,
+) -> usize
+    requires { Ready job.now room.old work.old size len × P.rules.Asks (items_in job.now) }
+    ensures { Responded P.rules job.now room.old work.old room.new work.new result }
 {
-    let unit = wide(units(job));
+    let unit = usize::from(units(job));
     let edition = sheeted(job);
     let t = close(work, size, len);
     let joins = t.joins;
-    let end = answer_all(
+    let end = answer_all::<P>(
         job,
         room,
         work,
@@ -151,4 +153,12 @@ pub fn respond(job: &[u8], room: &mut [u8], work: &mut [u16], size: usize, len: 
     );
     write_totals(room, end, size - joins, t.idle);
     end + 7
+}
+
+// The same for the plain profile.
+pub fn respond(job: &[u8], room: &mut [u8], work: &mut [u16], size: usize, len: usize) -> usize
+    requires { Ready job.now room.old work.old size len }
+    ensures { Responded plain_rules job.now room.old work.old room.new work.new result }
+{
+    respond_by::<Plain>(job, room, work, size, len)
 }

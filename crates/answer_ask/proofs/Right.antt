@@ -14,8 +14,7 @@ use Rattle.report.proofs.Known.{stands-map, no-reason}
 use Rattle.report.proofs.Bytes.{length-field, length-numbers}
 use Rattle.report_read.specs.Read.{Holds}
 use Rattle.report_read.proofs.Read.{holds-rest, holds-room}
-use Rattle.answer_ask.specs.declared.Passed.{Passed}
-use Rattle.answer_ask.specs.declared.Passed.TheVariants.{To, Wrong}
+use Rattle.std.specs.Prelude.{Result, Ok, Err}
 use Rattle.answer_ask.specs.Right.{RightAt, to, wrong}
 
 -- What stands at the front of the bytes from a place on stands at the place.
@@ -42,13 +41,13 @@ pub pair-room : (report : List ℕ) (at kind a b : ℕ) → at ≤ length report
 pair-room report at kind a b l h = omega (arith, holds-room report at (field kind (numbers (a ∷ b ∷ []))) l h, length-pair kind a b)
 
 module _ {H : Head} {rs : List Rec} {R s t l m : ℕ} (h : Leader H.units (UpTo rs R) s l) (k : Leader H.units (UpTo rs R) t m) (report : List ℕ) (at : ℕ) where
-  pub led-right : Holds report at (field 131 (numbers (l ∷ m ∷ []))) → RightAt (Answers (tabled H rs) (after_records R) (ask s t)) report at (To (at + 7))
+  pub led-right : Holds report at (field 131 (numbers (l ∷ m ∷ []))) → RightAt (Answers (tabled H rs) (after_records R) (ask s t)) report at (Ok (at + 7))
   led-right g = to {p = at + 7} (led h k) g (omega (arith, length-pair 131 l m))
 
-  pub led-wrong : (Holds report at (field 131 (numbers (l ∷ m ∷ []))) → ⊥) → RightAt (Answers (tabled H rs) (after_records R) (ask s t)) report at Wrong
-  led-wrong g = wrong (λ x. let r = found report at x in g (rw (ask-field h k r.is) at r.holds))
+  pub led-wrong : (Holds report at (field 131 (numbers (l ∷ m ∷ []))) → ⊥) → RightAt (Answers (tabled H rs) (after_records R) (ask s t)) report at (Err at)
+  led-wrong g = wrong (λ x. let r = found report at x in g (rw (ask-field h k r.is) at r.holds)) refl
 
 -- A place that is right by one measure is right by another that calls the same fields right.
-pub right-same : {P Q : List ℕ → Type 0} {report : List ℕ} {at : ℕ} {a : Passed} → ((f : List ℕ) → P f → Q f) → ((f : List ℕ) → Q f → P f) → RightAt P report at a → RightAt Q report at a
+pub right-same : {P Q : List ℕ → Type 0} {report : List ℕ} {at : ℕ} {a : Result ℕ ℕ} → ((f : List ℕ) → P f → Q f) → ((f : List ℕ) → Q f → P f) → RightAt P report at a → RightAt Q report at a
 right-same i j (to {f = f} p h e) = to (i f p) h e
-right-same i j (wrong n) = wrong (λ x. n (stands-map j x))
+right-same i j (wrong n e) = wrong (λ x. n (stands-map j x)) e

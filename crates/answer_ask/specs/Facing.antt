@@ -2,7 +2,6 @@
 -- Assumes nothing.
 use Rattle.std.specs.Prelude.{ℕ, ◌+◌, ◌≤◌, ◌≡◌, List, length}
 use Rattle.job_field.specs.Items.{Head, Matter, Moment, Question, room_for, tags_of_question}
-use Rattle.job_field.specs.Reading.{matter_in}
 use Rattle.job_field.specs.Standing.{Below}
 use Rattle.table.specs.Map.{records_in, Within}
 use Rattle.table.specs.Past.{Past}
@@ -21,15 +20,6 @@ pub record Facing (w room : List ℕ) (H : Head) (len joins before out : ℕ) (q
 pub record Answered (w room : List ℕ) (H : Head) (len before out : ℕ) (q : Question) (w' room' : List ℕ) (end : ℕ) : Type 0 where
   pub field : List ℕ
   pub right : (M : Matter) (b : Moment) → Known M b H (records_in len w) before → Answers M b q field
-  pub front : room' ≡ laid out field room
-  pub reached : end ≡ out + length field
-  pub kept : Within scratch w w'
-
--- The same for the job at hand, where a question may also look at the pairs that must differ: the field is right at the moment with so many
--- records and so many pairs before it.
-pub record Replied (job w room : List ℕ) (before differs out : ℕ) (q : Question) (w' room' : List ℕ) (end : ℕ) : Type 0 where
-  pub field : List ℕ
-  pub right : (b : Moment) → b.records ≡ before → b.differs ≡ differs → Answers (matter_in job) b q field
   pub front : room' ≡ laid out field room
   pub reached : end ≡ out + length field
   pub kept : Within scratch w w'

@@ -27,28 +27,21 @@ pub fn answer_ask(
     requires { Facing work.old room.old (head_of c) c.len c.joins before out (ask s.0 t.0) }
     ensures { Answered work.old room.old (head_of c) c.len before out (ask s.0 t.0) work.new room.new result }
 {
-    let p = leaders(work, c.size, c.unit, c.joins, before, s, t);
-    write_led(room, out, p.one, p.other);
+    let (one, other) = leaders(work, c.size, c.unit, c.joins, before, s, t);
+    write_led(room, out, one, other);
     out + 7
 }
 
-// Whether a right field stands at a place: then the place behind it. Where a right reason stands and its sheets do not stand behind it, the place where they should.
-#[derive(Clone, Copy)]
-pub enum Passed {
-    To(usize),
-    Wrong,
-    Astray(usize),
-}
-
-// Whether the answer to an ask stands at a place: the two leaders by the records before the question.
-pub fn led(report: &[u8], at: usize, work: &mut [u16], q: Question) -> Passed
+// Whether the answer to an ask stands at a place, the two leaders by the records before the question: then the place behind it, and otherwise the place, which is
+// at fault.
+pub fn led(report: &[u8], at: usize, work: &mut [u16], q: Question) -> Result<usize, usize>
     requires { Posed work.old q × (at ≤ length report.now) }
     ensures { Looked work.old work.new report.now at q result }
 {
-    let p = leaders(work, q.size, q.unit, q.joins, q.before, q.s, q.t);
-    if is_led(report, at, p.one, p.other) {
-        Passed::To(at + 7)
+    let (one, other) = leaders(work, q.size, q.unit, q.joins, q.before, q.s, q.t);
+    if is_led(report, at, one, other) {
+        Ok(at + 7)
     } else {
-        Passed::Wrong
+        Err(at)
     }
 }

@@ -19,7 +19,7 @@ use Rattle.report.specs.Report.{numbers, field, Answers, reasoned, parted, joine
 use Rattle.report.proofs.Bytes.{length-field, length-numbers}
 use Rattle.report.proofs.Known.{no-reason}
 use Rattle.report_read.specs.Read.{Holds}
-use Rattle.answer_ask.specs.declared.Passed.TheVariants.{To, Wrong}
+use Rattle.std.specs.Prelude.{Ok, Err}
 use Rattle.answer_ask.specs.Right.{RightAt, to, wrong}
 use Rattle.answer_ask.proofs.Right.{found}
 use Rattle.answer_why.specs.Why.{Labelled}
@@ -49,11 +49,11 @@ module _ {H : Head} {rs : List Rec} {R s t : ℕ} (report : List ℕ) (at : ℕ)
     joined-field (joined g) = refl
     joined-field (reasoned r g) = absurd (no-reason refl r)
 
-    pub joined-right : Holds report at (field 137 []) → RightAt (Answers (tabled H rs) (after_records R) (why s t)) report at (To (at + 3))
+    pub joined-right : Holds report at (field 137 []) → RightAt (Answers (tabled H rs) (after_records R) (why s t)) report at (Ok (at + 3))
     joined-right g = to {p = at + 3} (joined h) g (omega (arith, length-field 137 []))
 
-    pub joined-wrong : (Holds report at (field 137 []) → ⊥) → RightAt (Answers (tabled H rs) (after_records R) (why s t)) report at Wrong
-    joined-wrong g = wrong (λ x. let r = found report at x in g (rw (joined-field r.is) at r.holds))
+    pub joined-wrong : (Holds report at (field 137 []) → ⊥) → RightAt (Answers (tabled H rs) (after_records R) (why s t)) report at (Err at)
+    joined-wrong g = wrong (λ x. let r = found report at x in g (rw (joined-field r.is) at r.holds)) refl
 
   module _ (n : Follows (UpTo rs R) s t → ⊥) {L : List ℕ} (d : Led H.size H.units (UpTo rs R) L) where
     parted-field : {f : List ℕ} → Answers (tabled H rs) (after_records R) (why s t) f → f ≡ field 136 (numbers L)
@@ -61,8 +61,8 @@ module _ {H : Head} {rs : List Rec} {R s t : ℕ} (report : List ℕ) (at : ℕ)
     parted-field (joined g) = absurd (n g)
     parted-field (reasoned r g) = absurd (no-reason refl r)
 
-    pub parted-right : {p : ℕ} → Holds report at (field 136 (numbers L)) → p ≡ at + length (field 136 (numbers L)) → RightAt (Answers (tabled H rs) (after_records R) (why s t)) report at (To p)
+    pub parted-right : {p : ℕ} → Holds report at (field 136 (numbers L)) → p ≡ at + length (field 136 (numbers L)) → RightAt (Answers (tabled H rs) (after_records R) (why s t)) report at (Ok p)
     parted-right g e = to (parted n d) g e
 
-    pub parted-wrong : (Holds report at (field 136 (numbers L)) → ⊥) → RightAt (Answers (tabled H rs) (after_records R) (why s t)) report at Wrong
-    parted-wrong g = wrong (λ x. let r = found report at x in g (rw (parted-field r.is) at r.holds))
+    pub parted-wrong : (Holds report at (field 136 (numbers L)) → ⊥) → RightAt (Answers (tabled H rs) (after_records R) (why s t)) report at (Err at)
+    parted-wrong g = wrong (λ x. let r = found report at x in g (rw (parted-field r.is) at r.holds)) refl

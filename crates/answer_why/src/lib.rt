@@ -14,7 +14,6 @@ ghost use Rattle.moment.specs.Posed.{head_of, Posed};
 ghost use Rattle.answer_ask.specs.Facing.{Facing, Answered};
 ghost use Rattle.answer_why.specs.Why.{Labelled, Doubted};
 
-use answer_ask::Passed;
 use leading::{lead, leader_of};
 use meaning::Tag;
 use moment::{Closed, Question};
@@ -37,10 +36,8 @@ fn write_leaders(room: &mut [u8], at: usize, work: &[u16], size: usize)
     ensures { room.new ≡ laid at (field 136 (numbers (gather (leader_in work.now) size))) room.old }
 {
     put_front(room, at, PARTED, (2 * size) as u16);
-    let mut i = 0;
-    while i < size {
+    for i in 0..size {
         put_leader(room, at + 3, work, i);
-        i += 1;
     }
 }
 
@@ -60,7 +57,7 @@ pub fn answer_why(
     lead(work, c.size, c.unit, c.joins, before);
     let l = leader_of(work, s);
     let m = leader_of(work, t);
-    if l.is(m) {
+    if l == m {
         write_bare(room, out, JOINED);
         return out + 3;
     }
@@ -82,11 +79,8 @@ fn are_leaders(report: &[u8], at: usize, work: &[u16], size: usize) -> bool
     requires { Labelled work.now size × (at + 2 * size ≤ length report.now) }
     ensures { (result ≡ true) ↔ Holds report.now at (numbers (gather (leader_in work.now) size)) }
 {
-    let mut i = 0;
-    while i < size {
-        if is_leader(report, at, work, i) {
-            i += 1;
-        } else {
+    for i in 0..size {
+        if !is_leader(report, at, work, i) {
             return false;
         }
     }
@@ -112,22 +106,22 @@ fn is_parted(report: &[u8], at: usize, work: &[u16], size: usize) -> bool
 }
 
 // Whether the answer to a why stands at a place: the leaders by the records before the question, or that the equality follows.
-pub fn doubted(report: &[u8], at: usize, work: &mut [u16], q: Question) -> Passed
+pub fn doubted(report: &[u8], at: usize, work: &mut [u16], q: Question) -> Result<usize, usize>
     requires { Posed work.old q × (at ≤ length report.now) }
     ensures { Doubted work.old work.new report.now at q result }
 {
     lead(work, q.size, q.unit, q.joins, q.before);
     let l = leader_of(work, q.s);
     let m = leader_of(work, q.t);
-    if l.is(m) {
+    if l == m {
         if is_bare(report, at, JOINED) {
-            return Passed::To(at + 3);
+            return Ok(at + 3);
         }
-        return Passed::Wrong;
+        return Err(at);
     }
     if is_parted(report, at, work, q.size) {
-        Passed::To(at + 3 + 2 * q.size)
+        Ok(at + 3 + 2 * q.size)
     } else {
-        Passed::Wrong
+        Err(at)
     }
 }

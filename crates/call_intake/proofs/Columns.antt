@@ -17,7 +17,7 @@ use Rattle.table.specs.Map.{records_in, Loaded}
 use Rattle.table.proofs.Frame.{within_wider, within-refl}
 use Rattle.table.specs.Places.{named_part}
 use Rattle.records_fill.specs.Handing.{Counts, Handable, Handed}
-use Rattle.call_look.specs.declared.Sight.{Sight}
+use Rattle.call_look.specs.Seen.{Seen}
 use Rattle.call_look.specs.Look as l
 use Rattle.call_look.specs.Look.{Viewed, Looked}
 use Rattle.call_look.proofs.Ready.{Ready, Read, looked-ready, looked-lent, ready-lent, same-items}
@@ -28,11 +28,11 @@ use Rattle.call_look.proofs.Clearing.{cleared-after}
 use Rattle.call_intake.specs.Received.{Received}
 
 -- All of the records are asked for, or none.
-viewed-counts : {job : List ℕ} (s : Sight) → Viewed job s → (s.records ≡ 0) ⊎ Counts job s.records
+viewed-counts : {job : List ℕ} (s : Seen) → Viewed job s → (s.records ≡ 0) ⊎ Counts job s.records
 viewed-counts s (l.unread e) = inl refl
 viewed-counts s (l.ready {H = H} {items = items} e) = inr (record { head = H; items = items; reads = e; records = refl })
 
-module _ (job : List ℕ) (t : List Record) (w : List ℕ) (s : Sight) (seen : Looked job (length t) (length w) s) where
+module _ (job : List ℕ) (t : List Record) (w : List ℕ) (s : Seen) (seen : Looked job (length t) (length w) s) where
   -- Nothing is asked for where the lengths are not right.
   pub received-kept : s.lent ≡ false → Received job t w s t w
   received-kept q = record {
@@ -67,7 +67,7 @@ module _ (job : List ℕ) (t : List Record) (w : List ℕ) (s : Sight) (seen : L
         columns = as_items;
       }
 
-module _ {job : List ℕ} {t : List Record} {w : List ℕ} {s : Sight} {t' : List Record} {w' : List ℕ} (r : Received job t w s t' w') where
+module _ {job : List ℕ} {t : List Record} {w : List ℕ} {s : Seen} {t' : List Record} {w' : List ℕ} (r : Received job t w s t' w') where
   pub received-begun : Begun job w' s
   received-begun = record { places = length t; looked = subst (λ (n : ℕ). Looked job (length t) n s) (sym r.frame.size) r.looked; loaded = r.loaded; columns = r.columns }
 

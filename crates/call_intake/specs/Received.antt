@@ -8,11 +8,11 @@ use Rattle.records.specs.declared.Record.{Record}
 use Rattle.records.specs.Table.{Blanked}
 use Rattle.table.specs.Map.{records_in, Within, Loaded}
 use Rattle.table.specs.Places.{columns_part}
-use Rattle.call_look.specs.declared.Sight.{Sight}
+use Rattle.call_look.specs.Seen.{Seen}
 use Rattle.call_look.specs.Look.{Looked}
 
 -- s is what was seen; the tables t and w became t' and w'.
-pub record Received (job : List ℕ) (t : List Record) (w : List ℕ) (s : Sight) (t' : List Record) (w' : List ℕ) : Type 0 where
+pub record Received (job : List ℕ) (t : List Record) (w : List ℕ) (s : Seen) (t' : List Record) (w' : List ℕ) : Type 0 where
   pub looked : Looked job (length t) (length w) s
   -- after 1 and 2 nothing lent has changed
   pub kept : s.lent ≡ false → (t' ≡ t) × (w' ≡ w)

@@ -4,19 +4,27 @@
 #![tactic(auto)]
 
 ghost use Rattle.call_intake.specs.Received.{Received};
+ghost use Rattle.call_look.specs.Seen.{seen};
 
-use call_look::{Sight, look};
+use call_look::{Refusal, Sight, look};
 use records::{Record, clear};
 use records_fill::take_in;
 
 // A refusal for lengths alone leaves both tables as they were.
-pub fn receive(job: &[u8], records: &mut [Record], work: &mut [u16]) -> Sight
-    ensures { Received job.now records.old work.old result records.new work.new }
+pub fn receive(job: &[u8], records: &mut [Record], work: &mut [u16]) -> Result<Sight, Refusal>
+    ensures { Received job.now records.old work.old (seen result) records.new work.new }
 {
-    let s = look(job, records.len(), work.len());
-    if s.lent {
-        take_in(job, records, work, s.records);
-        clear(records);
+    let looked = look(job, records.len(), work.len());
+    match looked {
+        Ok(sight) => {
+            take_in(job, records, work, sight.records);
+            clear(records);
+        }
+        Err(refusal) => {
+            if refusal.is_lent() {
+                clear(records);
+            }
+        }
     }
-    s
+    looked
 }

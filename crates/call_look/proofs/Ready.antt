@@ -9,12 +9,12 @@ use lib.ListN.{length}
 use Rattle.job_field.specs.Items.{Head, Item, start, accepted, records_of, needed_room}
 use Rattle.job_field.specs.Standing.{Taken}
 use Rattle.job_field.specs.Reading.{reading}
-use Rattle.call_look.specs.declared.Sight.{Sight}
+use Rattle.call_look.specs.Seen.{Seen, counting}
 use Rattle.call_look.specs.Look as l
-use Rattle.call_look.specs.Look.{Viewed, Enough, Looked, counting}
+use Rattle.call_look.specs.Look.{Viewed, Enough, Looked}
 
 -- What is known where the call may go on.
-pub record Ready (job : List ℕ) (s : Sight) : Type 0 where
+pub record Ready (job : List ℕ) (s : Seen) : Type 0 where
   pub head : Head
   pub items : List Item
   pub reads : reading job ≡ accepted head items
@@ -23,30 +23,30 @@ pub record Ready (job : List ℕ) (s : Sight) : Type 0 where
   pub needed : s.needed ≡ needed_room head start items
 
 -- Lengths that are not at fault, and what the reading tells.
-pub record Read (job : List ℕ) (c w : ℕ) (s : Sight) : Type 0 where
+pub record Read (job : List ℕ) (c w : ℕ) (s : Seen) : Type 0 where
   pub enough : Enough job c w
   pub viewed : Viewed job s
 
 module _ {job : List ℕ} where
-  viewed-ready : (s : Sight) → Viewed job s → s.ready ≡ true → Ready job s
+  viewed-ready : (s : Seen) → Viewed job s → s.ready ≡ true → Ready job s
   viewed-ready s (l.unread e) q = let z : ◌≡◌ {A = ℕ} 0 1 = cc in absurd (omega arith)
   viewed-ready s (l.ready {H = H} {items = items} e) q = record { head = H; items = items; reads = e; size = refl; records = refl; needed = refl }
 
-  pub looked-ready : {p n : ℕ} (s : Sight) → Looked job p n s → s.ready ≡ true → Ready job s
+  pub looked-ready : {p n : ℕ} (s : Seen) → Looked job p n s → s.ready ≡ true → Ready job s
   looked-ready s (l.long h) q = let z : ◌≡◌ {A = ℕ} 0 1 = cc in absurd (omega arith)
   looked-ready s (l.narrow h o) q = let z : ◌≡◌ {A = ℕ} 0 1 = cc in absurd (omega arith)
   looked-ready s (l.viewed h v) q = viewed-ready s v q
 
-  pub viewed-lent : (s : Sight) → Viewed job s → s.lent ≡ true
+  pub viewed-lent : (s : Seen) → Viewed job s → s.lent ≡ true
   viewed-lent s (l.unread e) = refl
   viewed-lent s (l.ready e) = refl
 
-  pub looked-lent : {p n : ℕ} (s : Sight) → Looked job p n s → s.lent ≡ true → Read job p n s
+  pub looked-lent : {p n : ℕ} (s : Seen) → Looked job p n s → s.lent ≡ true → Read job p n s
   looked-lent s (l.long h) q = let z : ◌≡◌ {A = ℕ} 0 1 = cc in absurd (omega arith)
   looked-lent s (l.narrow h o) q = let z : ◌≡◌ {A = ℕ} 0 1 = cc in absurd (omega arith)
   looked-lent s (l.viewed h v) q = record { enough = h; viewed = v }
 
-  pub ready-lent : {p n : ℕ} (s : Sight) → Looked job p n s → s.ready ≡ true → s.lent ≡ true
+  pub ready-lent : {p n : ℕ} (s : Seen) → Looked job p n s → s.ready ≡ true → s.lent ≡ true
   ready-lent s (l.long h) q = let z : ◌≡◌ {A = ℕ} 0 1 = cc in absurd (omega arith)
   ready-lent s (l.narrow h o) q = let z : ◌≡◌ {A = ℕ} 0 1 = cc in absurd (omega arith)
   ready-lent s (l.viewed h v) q = viewed-lent s v

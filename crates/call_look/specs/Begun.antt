@@ -5,10 +5,10 @@ use Rattle.std.specs.Prelude.{ℕ, ◌≡◌, true, List, length}
 use Rattle.job_field.specs.Items.{Head, Item, accepted, records_of}
 use Rattle.job_field.specs.Reading.{reading}
 use Rattle.table.specs.Map.{records_in, Loaded}
-use Rattle.call_look.specs.declared.Sight.{Sight}
+use Rattle.call_look.specs.Seen.{Seen}
 use Rattle.call_look.specs.Look.{Looked}
 
-pub record Begun (job work : List ℕ) (s : Sight) : Type 0 where
+pub record Begun (job work : List ℕ) (s : Seen) : Type 0 where
   pub places : ℕ
   pub looked : Looked job places (length work) s
   pub loaded : s.ready ≡ true → Loaded s.size s.records work

@@ -1,3 +1,4 @@
+pub mod Seen
 pub mod Look
 pub mod Clear
 pub mod Lent

@@ -3,16 +3,14 @@
 #![tactic(auto)]
 
 ghost use Rattle.std.specs.Prelude.{◌≡◌, length, true, ◌≤◌};
-ghost use Rattle.call_look.specs.Look.{Viewed, Looked, declined};
+ghost use Rattle.call_look.specs.Look.{Viewed, Looked};
+ghost use Rattle.call_look.specs.Seen.{reason_number, reason_lent, refusal_of, unread_of, seen};
 ghost use Rattle.job_field.specs.Reading.{longest};
 ghost use Rattle.table.specs.Places.{Large};
 ghost use Rattle.call_look.specs.Clear.{Cleared, Returned};
 
-use job_field::{number_of, sheeted};
-use job_read::{Answer as Read, read_job};
-use table_labels::fill;
-
-// What is seen before anything is stored: the refusals 1 to 8 in their order, or that the call may go on.
+use job_field::{Fault, sheeted};
+use job_read::{Refusal as Unread, read_job};
 
 // Document 01's limits: the longest job, and the named places of the record table and of the work table.
 pub const LONGEST: usize = meaning::LONGEST;
@@ -23,72 +21,92 @@ pub const PLACES: usize = meaning::NAMED_PLACES;
 
 pub const NAMED: usize = meaning::NAMED_NUMBERS;
 
-// What is known: whether the lengths are right, without which no table is touched; whether the call may go on, or the refusal; N, the number of
-// records, and the room that the report needs. The last three are 0 for a refusal.
-#[derive(Clone, Copy)]
-pub struct Sight {
-    pub lent: bool,
-    pub ready: bool,
-    pub number: u8,
+// Why a call refuses, in the order of the documents' numbers.
+#[derive(Clone, Copy, Debug, PartialEq, Eq)]
+pub enum Reason {
+    // The job is longer than the longest of its edition.
+    JobTooLong,
+    // Either table is shorter than named.
+    TablesTooShort,
+    // The reading refuses the job.
+    Job(Fault),
+    // The room is smaller than needed.
+    RoomTooShort,
+    // The report is unsound.
+    ReportUnsound,
+    // More passes change something than the limit allows.
+    LimitSpent,
+}
+
+// The number that the documents give a reason.
+impl From<Reason> for u8 {
+    ghost from_gives = { λ r n. n ≡ reason_number r };
+
+    fn from(reason: Reason) -> u8 {
+        match reason {
+            Reason::JobTooLong => 1,
+            Reason::TablesTooShort => 2,
+            Reason::Job(fault) => u8::from(fault),
+            Reason::RoomTooShort => 9,
+            Reason::ReportUnsound => 10,
+            Reason::LimitSpent => 19,
+        }
+    }
+}
+
+// A refusal, with the place that it names: 0 where it names none.
+#[derive(Clone, Copy, Debug, PartialEq, Eq)]
+pub struct Refusal {
+    pub reason: Reason,
     pub place: usize,
+}
+
+impl Refusal {
+    // A refusal that names no place.
+    pub fn of(reason: Reason) -> Refusal
+        ensures { result ≡ refusal_of reason }
+    {
+        Refusal { reason, place: 0 }
+    }
+
+    // Whether the lengths are right, without which no table is touched.
+    pub fn is_lent(&self) -> bool
+        ensures { result ≡ reason_lent self.now.reason }
+    {
+        !matches!(self.reason, Reason::JobTooLong | Reason::TablesTooShort)
+    }
+}
+
+// What the reading refuses.
+impl From<Unread> for Refusal {
+    ghost from_gives = { λ u r. r ≡ unread_of u };
+
+    fn from(unread: Unread) -> Refusal {
+        Refusal {
+            reason: Reason::Job(unread.fault),
+            place: unread.place,
+        }
+    }
+}
+
+// What is seen of a job that is accepted: N, the number of records, and the room that the report needs.
+#[derive(Clone, Copy, Debug, PartialEq, Eq)]
+pub struct Sight {
     pub size: usize,
     pub records: usize,
     pub needed: usize,
 }
 
-// A number of two bytes, as a place.
-fn wide(x: u16) -> usize
-    ensures { result ≡ x }
-{
-    x as usize
-}
-
 // Numbers 3 to 8, 11 to 13 and 17, in their order.
-fn view(job: &[u8]) -> Sight
-    ensures { Viewed job.now result }
+fn view(job: &[u8]) -> Result<Sight, Refusal>
+    ensures { Viewed job.now (seen result) }
 {
-    match read_job(job) {
-        Read::Refused { fault, place } => Sight {
-            lent: true,
-            ready: false,
-            number: number_of(fault),
-            place,
-            size: 0,
-            records: 0,
-            needed: 0,
-        },
-        Read::Accepted {
-            size,
-            units: _,
-            sheeted: _,
-            records,
-            questions: _,
-            room,
-        } => Sight {
-            lent: true,
-            ready: true,
-            number: 0,
-            place: 0,
-            size: wide(size),
-            records: wide(records),
-            needed: room,
-        },
-    }
-}
-
-// A refusal for lengths alone.
-fn decline(number: u8) -> Sight
-    ensures { result ≡ declined number }
-{
-    Sight {
-        lent: false,
-        ready: false,
-        number,
-        place: 0,
-        size: 0,
-        records: 0,
-        needed: 0,
-    }
+    let read = read_job(job)?;
+    Ok(Sight {
+        size: usize::from(read.head.size),
+        records: usize::from(read.records),
+        needed: read.room,
+    })
 }
 
 // The longest job of the edition that the first byte tells.
@@ -103,17 +121,17 @@ fn longest_of(job: &[u8]) -> usize
 }
 
 // Numbers 1 to 8, in their order, for a job and tables of so many places and numbers.
-pub fn look(job: &[u8], places: usize, numbers: usize) -> Sight
-    ensures { Looked job.now places numbers result }
+pub fn look(job: &[u8], places: usize, numbers: usize) -> Result<Sight, Refusal>
+    ensures { Looked job.now places numbers (seen result) }
 {
     if longest_of(job) < job.len() {
-        return decline(1);
+        return Err(Refusal::of(Reason::JobTooLong));
     }
     if places < PLACES {
-        return decline(2);
+        return Err(Refusal::of(Reason::TablesTooShort));
     }
     if numbers < NAMED {
-        return decline(2);
+        return Err(Refusal::of(Reason::TablesTooShort));
     }
     view(job)
 }
@@ -125,7 +143,7 @@ fn clear(work: &mut [u16])
     requires { Large work.old }
     ensures { Cleared work.old work.new }
 {
-    fill(&mut work[0..NAMED], 0);
+    work[0..NAMED].fill(0);
 }
 
 // Where the lengths were right the named places become zero; otherwise nothing changes.

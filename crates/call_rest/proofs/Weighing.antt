@@ -20,8 +20,9 @@ use Rattle.table.specs.Places.{named_part}
 use Rattle.all_close.specs.Closing.{Closing}
 use Rattle.judge.specs.Judging as g
 use Rattle.judge.specs.Judging.{Judgeable, Judged, Verdict}
-use Rattle.judge.specs.declared.Judgement.{Judgement}
-use Rattle.call_look.specs.declared.Sight.{Sight}
+use Rattle.std.specs.Prelude.{Result}
+use Rattle.profile.specs.Plain.{plain_rules}
+use Rattle.call_look.specs.Seen.{Seen, number_of, place_of}
 use Rattle.call_look.specs.Look as l
 use Rattle.call_look.specs.Look.{Looked}
 use Rattle.call_look.proofs.Ready.{Ready, looked-ready, looked-lent, ready-lent}
@@ -32,13 +33,13 @@ use Rattle.call_rest.specs.Weigh as c
 use Rattle.call_rest.specs.Weigh.{Weighed, finding_of}
 
 -- A refusal is as it was seen.
-looked-refused : {job report w w' : List ℕ} {p n : ℕ} (s : Sight) → Looked job p n s → s.ready ≡ false → Returned s.lent w w' → Weighed job report w s s.number s.place w'
+looked-refused : {job report w w' : List ℕ} {p n : ℕ} (s : Seen) → Looked job p n s → s.ready ≡ false → Returned s.lent w w' → Weighed job report w s s.number s.place w'
 looked-refused {job} {report} {w} s (l.long h) q x = subst (λ (v : List ℕ). Weighed job report w s 1 0 v) (sym (returned-false x refl)) (c.declined refl)
 looked-refused {job} {report} {w} s (l.narrow h o) q x = subst (λ (v : List ℕ). Weighed job report w s 2 0 v) (sym (returned-false x refl)) (c.declined refl)
 looked-refused s (l.viewed h (l.unread e)) q x = c.unread refl e (returned-true x refl)
 looked-refused s (l.viewed h (l.ready e)) q x = let z : ◌≡◌ {A = ℕ} 0 1 = cc in absurd (omega arith)
 
-module _ (job report w : List ℕ) (s : Sight) (h : Begun job w s) where
+module _ (job report w : List ℕ) (s : Seen) (h : Begun job w s) where
   pub weigh-refused : (w' : List ℕ) → s.ready ≡ false → Returned s.lent w w' → Weighed job report w s s.number s.place w'
   weigh-refused w' q x = looked-refused s h.looked q x
 
@@ -74,12 +75,12 @@ module _ (job report w : List ℕ) (s : Sight) (h : Begun job w s) where
         idles = subst (λ (rs : List Rec). Idles rs idle) held d.idles;
       }
 
-      pub weigh-done : (w'' w''' : List ℕ) (j : Judgement) → Judged job report w' w'' j → Returned true w'' w''' → Weighed job report w s (finding_of j).number (finding_of j).place w'''
-      weigh-done w'' w''' j b x = go j (subst (λ (x : Reading). Verdict (matter_of (head_of x) (items_of x)) start (items_of x) 0 report j) reads b.verdict)
+      pub weigh-done : (w'' w''' : List ℕ) (j : Result (Unit {0}) ℕ) → Judged plain_rules job report w' w'' j → Returned true w'' w''' → Weighed job report w s (number_of (finding_of j)) (place_of (finding_of j)) w'''
+      weigh-done w'' w''' j b x = go j (subst (λ (x : Reading). Verdict plain_rules (matter_of (head_of x) (items_of x)) start (items_of x) 0 report j) reads b.verdict)
         where
           emptied : Cleared w w'''
           emptied = cleared-after (within-trans (within_wider named_part (omega arith) (omega arith) d.kept) (within_wider named_part (omega arith) (omega arith) b.kept)) (returned-true x refl)
 
-          go : (i : Judgement) → Verdict (matter_of viewed.head viewed.items) start viewed.items 0 report i → Weighed job report w s (finding_of i).number (finding_of i).place w'''
+          go : (i : Result (Unit {0}) ℕ) → Verdict plain_rules (matter_of viewed.head viewed.items) start viewed.items 0 report i → Weighed job report w s (number_of (finding_of i)) (place_of (finding_of i)) w'''
           go i (g.sound o) = c.sound lent reads o emptied
           go i (g.fault o) = c.unsound lent reads o emptied

@@ -4,12 +4,10 @@
 // This file reads the stream and says what is lent for each frame. Rests on haltzurme_own, records, job_read and console.
 #![tactic(auto)]
 
-ghost use Rattle.std.specs.Prelude.{◌≤◌};
-
 use answers::{answer, front, recheck_at};
-use console::{Got, read_input, write_error, write_output};
+use console::{read_input, write_error, write_output};
 use frames::put_bytes;
-use job_read::{Answer as Read, read_job};
+use job_read::read_job;
 use rubbish::rubbish_of;
 
 mod answers;
@@ -21,33 +19,16 @@ pub const NAMED: usize = 32768;
 
 const ROOM: usize = 60000;
 
-// Where the stream stands: whether it goes on, the length of the job at hand, and the places of the table that were lent for it.
+// Where a stream that goes on stands: the length of the job at hand, and the places of the table that were lent for it.
 #[derive(Clone, Copy)]
 struct Stand {
-    on: bool,
     length: usize,
     places: usize,
 }
 
-fn wide(x: u8) -> usize
-    ensures { result ≤ 255 }
-{
-    x as usize
-}
-
-fn least(a: usize, b: usize) -> usize
-    ensures { (result ≤ a) × (result ≤ b) }
-{
-    if a < b { a } else { b }
-}
-
 // The room that a job needs, where it is no more than can be lent; 0 where it is refused.
 fn needed(job: &[u8]) -> usize {
-    let read = read_job(job);
-    match read {
-        Read::Accepted { room, .. } => least(room, 65536),
-        Read::Refused { .. } => 0,
-    }
+    read_job(job).map_or(0, |known| known.room.min(65536))
 }
 
 // The room and the places of the work table that are lent for a job.
@@ -71,7 +52,7 @@ fn enough(need: usize, count: usize) -> Loan {
 // Too little: a byte of room less, a number of the table less, most of the table missing, most of the room missing.
 fn too_little(need: usize, count: usize) -> Loan {
     let kind = count / 4 % 4;
-    let sizes = [need - least(need, 1), ROOM, need, count % 8];
+    let sizes = [need.saturating_sub(1), ROOM, need, count % 8];
     let places = [NAMED, NAMED - 1, count % 1000, NAMED];
     Loan {
         size: sizes[kind],
@@ -89,34 +70,21 @@ fn with_job(rt: &HostRuntime, job: &[u8], count: usize) -> Stand {
     let loan = enough(need, count);
     answer(rt, job, loan.size, loan.places, rubbish_of(count));
     Stand {
-        on: true,
         length: job.len(),
         places: loan.places,
     }
 }
 
-fn halt() -> Stand {
-    Stand {
-        on: false,
-        length: 0,
-        places: NAMED,
-    }
-}
-
 // A letter that is no frame's has the judge refuse the whole stream.
-fn broken(rt: &HostRuntime) -> Stand {
-    write_output(rt, b"!");
-    write_error(rt, b"framed: the stream is broken\n");
-    halt()
+fn broken(rt: &HostRuntime) -> Option<Stand> {
+    let _ = write_output(rt, b"!");
+    let _ = write_error(rt, b"framed: the stream is broken\n");
+    None
 }
 
 // How many bytes came, or a number that is none of theirs.
 fn fetch(rt: &HostRuntime, part: &mut [u8]) -> usize {
-    let got = read_input(rt, part);
-    match got {
-        Got::Bytes(m) => m,
-        Got::Broken => usize::MAX,
-    }
+    read_input(rt, part).unwrap_or(usize::MAX)
 }
 
 // Whether so many bytes came, and there is space for them.
@@ -128,15 +96,15 @@ fn fetch_front(rt: &HostRuntime, space: &mut [u8], n: usize) -> bool {
     }
 }
 
-fn job_frame(rt: &HostRuntime, job: &mut [u8], n: usize, count: usize) -> Stand {
+fn job_frame(rt: &HostRuntime, job: &mut [u8], n: usize, count: usize) -> Option<Stand> {
     if fetch_front(rt, job, n) {
-        with_job(rt, front(job, n), count)
+        Some(with_job(rt, front(job, n), count))
     } else {
         broken(rt)
     }
 }
 
-fn with_report(rt: &HostRuntime, job: &[u8], report: &[u8], s: Stand, count: usize) -> Stand {
+fn with_report(rt: &HostRuntime, job: &[u8], report: &[u8], s: Stand, count: usize) {
     put_bytes(rt, b"P", report);
     recheck_at(
         rt,
@@ -145,7 +113,6 @@ fn with_report(rt: &HostRuntime, job: &[u8], report: &[u8], s: Stand, count: usi
         s.places,
         rubbish_of(count),
     );
-    s
 }
 
 fn report_frame(
@@ -155,9 +122,10 @@ fn report_frame(
     n: usize,
     s: Stand,
     count: usize,
-) -> Stand {
+) -> Option<Stand> {
     if fetch_front(rt, report, n) {
-        with_report(rt, job, front(report, n), s, count)
+        with_report(rt, job, front(report, n), s, count);
+        Some(s)
     } else {
         broken(rt)
     }
@@ -165,7 +133,7 @@ fn report_frame(
 
 // A number of four bytes, high byte first.
 fn number(a: u8, b: u8, c: u8, d: u8) -> usize {
-    wide(a) * 16777216 + wide(b) * 65536 + wide(c) * 256 + wide(d)
+    usize::from(a) * 16777216 + usize::from(b) * 65536 + usize::from(c) * 256 + usize::from(d)
 }
 
 // The head of a frame: how many of its bytes came, its letter where all did, and the bytes behind it.
@@ -188,14 +156,20 @@ fn read_head(rt: &HostRuntime) -> Head {
 }
 
 // A stream ends in front of a head, and has no other letters than these.
-fn turn(rt: &HostRuntime, job: &mut [u8], report: &mut [u8], s: Stand, count: usize) -> Stand {
+fn turn(
+    rt: &HostRuntime,
+    job: &mut [u8],
+    report: &mut [u8],
+    s: Stand,
+    count: usize,
+) -> Option<Stand> {
     let head = read_head(rt);
     if head.letter == b'J' {
         job_frame(rt, job, head.size, count)
     } else if head.letter == b'P' {
         report_frame(rt, job, report, head.size, s, count)
     } else if head.got == 0 {
-        halt()
+        None
     } else {
         broken(rt)
     }
@@ -204,14 +178,18 @@ fn turn(rt: &HostRuntime, job: &mut [u8], report: &mut [u8], s: Stand, count: us
 // Nothing says that a stream ends, so the frames are counted up to a number that no stream has.
 fn serve(rt: &HostRuntime, job: &mut [u8], report: &mut [u8]) {
     let mut s = Stand {
-        on: true,
         length: 0,
         places: NAMED,
     };
-    let mut count: usize = 0;
-    while count < usize::MAX && s.on {
-        s = turn(rt, job, report, s, count);
-        count += 1;
+    for count in 0..usize::MAX {
+        match turn(rt, job, report, s, count) {
+            Some(next) => {
+                s = next;
+            }
+            None => {
+                return;
+            }
+        }
     }
 }
 

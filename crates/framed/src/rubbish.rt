@@ -1,6 +1,7 @@
 // What room and tables hold before a call, and whether they ended as document 01 says, "What is lent, and each refusal": where not, a frame
-// X tells of it. Rests on records.
+// X tells of it. Rests on records, meaning and haltzurme_own.
 use crate::frames::tell;
+use haltzurme_own::Refusal;
 use meaning::Tag;
 use records::Record;
 
@@ -37,36 +38,31 @@ pub fn record_of(r: Rubbish) -> Record {
 
 pub fn soil_table(work: &mut [u16], r: Rubbish) {
     let mut value = r.first;
-    let mut i: usize = 0;
-    while i < work.len() {
-        work[i] = value;
+    for number in work.iter_mut() {
+        *number = value;
         value = value.wrapping_add(r.step);
-        i += 1;
     }
 }
 
 // The named places that an answer leaves zero: none after 1 and 2, which change nothing.
-fn zeros_after(number: u8) -> usize {
-    if number == 1 || number == 2 {
-        0
-    } else {
-        crate::NAMED
+fn zeros_after(answer: Result<(), Refusal>) -> usize {
+    match answer {
+        Err(refusal) if !refusal.is_lent() => 0,
+        _ => crate::NAMED,
     }
 }
 
-// After an answer of this number: the zeros at the front, and the rubbish behind them as it was.
-pub fn look_table(rt: &HostRuntime, work: &[u16], number: u8, r: Rubbish) {
-    let zeros = zeros_after(number);
+// After an answer: the zeros at the front, and the rubbish behind them as it was.
+pub fn look_table(rt: &HostRuntime, work: &[u16], answer: Result<(), Refusal>, r: Rubbish) {
+    let zeros = zeros_after(answer);
     let mut value = r.first;
-    let mut i: usize = 0;
-    while i < work.len() {
+    for (i, number) in work.iter().enumerate() {
         let due = if i < zeros { 0 } else { value };
-        if work[i] != due {
+        if *number != due {
             tell(rt, false);
             return;
         }
         value = value.wrapping_add(r.step);
-        i += 1;
     }
 }
 
@@ -76,24 +72,20 @@ fn low(n: u16) -> u8 {
 
 pub fn soil_room(room: &mut [u8], r: Rubbish) {
     let mut value = r.first;
-    let mut i: usize = 0;
-    while i < room.len() {
-        room[i] = low(value);
+    for byte in room.iter_mut() {
+        *byte = low(value);
         value = value.wrapping_add(r.step);
-        i += 1;
     }
 }
 
 // The rubbish behind the first so many bytes is as it was.
 pub fn look_room(rt: &HostRuntime, room: &[u8], from: usize, r: Rubbish) {
     let mut value = r.first;
-    let mut i: usize = 0;
-    while i < room.len() {
-        if i >= from && room[i] != low(value) {
+    for (i, byte) in room.iter().enumerate() {
+        if i >= from && *byte != low(value) {
             tell(rt, false);
             return;
         }
         value = value.wrapping_add(r.step);
-        i += 1;
     }
 }

@@ -7,7 +7,7 @@ use mathlib.Core.Bool.{true, false}
 use mathlib.Core.List.{List}
 use lib.ListN.{length}
 use Rattle.records.specs.declared.Record.{Record}
-use Rattle.call_look.specs.declared.Sight.{Sight}
+use Rattle.call_look.specs.Seen.{Seen}
 use Rattle.call_look.specs.Look as l
 use Rattle.call_look.specs.Look.{Looked}
 use Rattle.call_look.proofs.Ready.{viewed-lent}
@@ -20,12 +20,12 @@ use Rattle.haltzurme.specs.Recheck.{Rechecked}
 
 module _ (job report : List ℕ) (t : List Record) (w : List ℕ) where
   -- A refusal for lengths alone is 1 or 2, and changes nothing.
-  declined-rechecked : (s : Sight) → Looked job (length t) (length w) s → s.lent ≡ false → Rechecked job report t w s.number s.place t w
+  declined-rechecked : (s : Seen) → Looked job (length t) (length w) s → s.lent ≡ false → Rechecked job report t w s.number s.place t w
   declined-rechecked s (l.long h) q = r.long h
   declined-rechecked s (l.narrow h o) q = r.narrow h o
   declined-rechecked s (l.viewed h v) q = let e : s.lent ≡ true = viewed-lent s v in let z : ◌≡◌ {A = ℕ} 0 1 = cc in absurd (omega arith)
 
-  pub weighed-rechecked : (s : Sight) (t' : List Record) (w' : List ℕ) → Received job t w s t' w' → (n p : ℕ) (w'' : List ℕ) → Weighed job report w' s n p w'' → Rechecked job report t w n p t' w''
+  pub weighed-rechecked : (s : Seen) (t' : List Record) (w' : List ℕ) → Received job t w s t' w' → (n p : ℕ) (w'' : List ℕ) → Weighed job report w' s n p w'' → Rechecked job report t w n p t' w''
   weighed-rechecked s t' w' d n p w'' (c.declined q) =
       subst (λ (u : List Record). Rechecked job report t w s.number s.place u w') (sym (d.kept q).0) (subst (λ (v : List ℕ). Rechecked job report t w s.number s.place t v) (sym (d.kept q).1) (declined-rechecked s d.looked q))
   weighed-rechecked s t' w' d n p w'' (c.unread q e x) = r.unread (received-lent d q) e (received-emptied d q x)

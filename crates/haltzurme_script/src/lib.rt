@@ -2,24 +2,25 @@
 // on its caller: every script, room and table gets the answer that specs/ defines. Rests on script_call, and on records for the table that it clears.
 #![tactic(auto)]
 
+ghost use Rattle.script_call.specs.Parts.{lent_of, number_of, place_of, length_of};
 ghost use Rattle.haltzurme_script.specs.Translated.{Translated};
 
 use records::{Record, clear};
-pub use script_call::Translation;
-use script_call::translate_beside;
+pub use script_call::{Reason, Refusal};
+use script_call::{is_lent, translate_beside};
 
-// Reads a script: the job comes to the front of the room, and both tables are left zero in their named places.
+// Reads a script, and answers with the job's length: the job comes to the front of the room, and both tables are left zero in their named places.
 pub fn translate(
     script: &[u8],
     room: &mut [u8],
     records: &mut [Record],
     work: &mut [u16],
-) -> Translation
-    ensures { Translated script.now room.old records.old work.old result.lent result.number result.place result.length room.new records.new work.new }
+) -> Result<usize, Refusal>
+    ensures { Translated script.now room.old records.old work.old (lent_of result) (number_of result) (place_of result) (length_of result) room.new records.new work.new }
 {
-    let a = translate_beside(script, room, work, records.len());
-    if a.lent {
+    let made = translate_beside(script, room, work, records.len());
+    if is_lent(&made) {
         clear(records);
     }
-    a
+    made
 }

@@ -1,18 +1,18 @@
 -- A level, record by record, and the table before the first. Assumes nothing.
 use Prim.Native.Nat.{ℕ, suc, ◌+◌, ◌≤◌, ◌<◌}
 use native.Mathlib.Omega.{arith}
-use native.Mathlib.Decide.{ℕ_discrete, dec_le, dec_lt}
+use native.Mathlib.Decide.{dec_le, dec_lt}
 use native.Mathlib.Numerals.{add-one}
-use mathlib.Core.Path.{◌≡◌, refl, sym, ◌∙◌, fun_ext}
+use mathlib.Core.Path.{◌≡◌, sym, ◌∙◌, fun_ext}
 use mathlib.Core.Logic.{inl, inr}
-use mathlib.Core.List.{List}
-use lib.ListN.{set}
-use Rattle.meaning.specs.Joins.{put}
-use Rattle.meaning.proofs.Log.{put-hit, put-miss}
+use mathlib.Core.List.{List, ◌++◌}
+use lib.ListN.{length, take, drop}
 use Rattle.meaning.specs.Limits.{most_tags}
 use Rattle.table.specs.Map.{left_of, right_of, Within}
 use Rattle.table.specs.Places.{PARENT, Part, Large, from_to}
-use Rattle.table.proofs.Frame.{seen-in, seen-past, within-refl, within-trans, within-set, within_wider}
+use Rattle.table_labels.specs.Parts.{Fills}
+use Rattle.table_labels.proofs.Views.{lent-within, lent_at}
+use Rattle.table.proofs.Frame.{seen_at, seen-past, within-refl, within-trans, within_wider}
 use Rattle.table.proofs.Kept.{lefts, rights}
 use Rattle.harness_meaning.specs.Search.{Ends, forth, back, During, Levels}
 use Rattle.harness_meaning.specs.Search as search
@@ -93,21 +93,11 @@ sweep-end {R = R} g l = record {
 }
 
 -- Levels cleared.
-pub blank-start : (w : List ℕ) → Blank w w 0
-blank-start w = record { kept = within-refl w; none = λ x l. absurd (omega arith) }
-
-pub blank-more : {w w' w'' : List ℕ} {n v : ℕ} → Large w → n < most_tags → Blank w w' n → v ≡ n → w'' ≡ set w' (LEVELS.at + v) unfound → Blank w w'' (n + 1)
-blank-more {w} {w'} {w''} {n} {v} long l h q f = record { kept = rw e (within-trans h.kept (within-set found_part w' (LEVELS.at + n) unfound (omega arith) (omega arith))); none = λ x o. go x o (ℕ_discrete x n) }
-  where
-    e : w'' ≡ set w' (LEVELS.at + n) unfound
-    e = rw q at f
-
-    at : lev_in w'' ≡ put n unfound (lev_in w')
-    at = rw (e, seen-in LEVELS w' n unfound l (omega (arith, h.kept.size))) refl
-
-    go : (x : ℕ) → x < n + 1 → Dec (x ≡ n) → lev_in w'' x ≡ unfound
-    go x o (yes q) = rw (at, q) (put-hit n unfound (lev_in w'))
-    go x o (no q) = rw at (put-miss n unfound (lev_in w') x q ∙ h.none x (omega arith))
+pub blanked : (w w' v : List ℕ) → Large w → length v ≡ length (take most_tags (drop LEVELS.at w)) → w' ≡ take LEVELS.at w ++ (v ++ drop most_tags (drop LEVELS.at w)) → Fills v unfound → Blank w w' most_tags
+blanked w w' v long s e h = record {
+  kept = within_wider found_part (omega arith) (omega arith) (lent-within LEVELS.at most_tags w w' v (omega arith) s e);
+  none = λ x l. seen_at LEVELS w' x l ∙ lent_at LEVELS.at most_tags w w' v (omega arith) s e (λ i. unfound) h x l;
+}
 
 pub blank-all : {w w' : List ℕ} → Blank w w' most_tags → lev_in w' ≡ λ x. unfound
 blank-all {w} {w'} h = fun_ext (λ x. go x (dec_lt x most_tags))

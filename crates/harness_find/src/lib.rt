@@ -2,7 +2,7 @@
 // tag, and the records of the way back. Document 02, No. 8. Rests on harness_meaning, for why it is right, on harness_table, where it stands, and on table.
 #![tactic(auto)]
 
-ghost use Rattle.std.specs.Prelude.{◌≡◌, ℕ, suc, ◌+◌, ◌≤◌, ◌<◌, min, length};
+ghost use Rattle.std.specs.Prelude.{◌≡◌, ℕ, suc, ◌+◌, ◌≤◌, ◌<◌, length};
 ghost use Rattle.meaning.specs.Limits.{most_records, most_tags};
 ghost use Rattle.table.specs.Map.{left_of, right_of};
 ghost use Rattle.table.specs.Places.{Large};
@@ -19,19 +19,10 @@ fn far(work: &[u16], k: RecordNo, v: Tag) -> Tag
     ensures { result.0 ≡ farOf (left_of work.now) (right_of work.now) k.0 v.0 }
 {
     let a = table::left(work, k);
-    if v.is(a) {
+    if v == a {
         return table::right(work, k);
     }
     a
-}
-
-fn least(p: usize, q: usize) -> usize
-    ensures { result ≡ min p q }
-{
-    if p <= q {
-        return p;
-    }
-    q
 }
 
 // Of two ways that end in one tag, by record k from u and by record j from v, both of level d: whether the first has the smaller number behind the place
@@ -40,24 +31,22 @@ fn is_sooner(work: &[u16], d: usize, u: Tag, v: Tag, k: usize, j: usize) -> bool
     requires { Trial work.now d × (lev_in work.now u.0 ≡ d) × (lev_in work.now v.0 ≡ d) }
     ensures { result ≡ sooner (left_of work.now) (right_of work.now) (last_in work.now) d u.0 v.0 k j }
 {
-    let mut n = d;
     let mut x = u;
     let mut y = v;
     let mut p = k;
     let mut q = j;
-    while n != 0 {
-        if x.is(y) {
+    for _ in 0..d {
+        if x == y {
             return p < q;
         }
         let e = harness_table::last_record(work, x);
         let f = harness_table::last_record(work, y);
         let i = table::record_place(e);
         let h = table::record_place(f);
-        p = least(p, i);
-        q = least(q, h);
+        p = p.min(i);
+        q = q.min(h);
         x = far(work, e, x);
         y = far(work, f, y);
-        n -= 1;
     }
     p < q
 }
@@ -122,10 +111,8 @@ fn rise(work: &mut [u16], before: usize, d: usize)
     requires { Rising work.old before d }
     ensures { Risen work.old work.new before d }
 {
-    let mut k: usize = 0;
-    while k < before {
+    for k in 0..before {
         try_record(work, d, k);
-        k += 1;
     }
 }
 
@@ -134,12 +121,7 @@ fn clear_levels(work: &mut [u16])
     requires { Large work.old }
     ensures { Blank work.old work.new most_tags }
 {
-    let mut x: usize = 0;
-    while x < meaning::MOST_TAGS {
-        let v = table::tag_at(x);
-        harness_table::put_level(work, v, UNFOUND);
-        x += 1;
-    }
+    work[table::MARKS..table::SAVED].fill(UNFOUND as u16);
 }
 
 // The tag s alone is found, at level 0.
@@ -171,11 +153,9 @@ pub fn trace(work: &mut [u16], t: Tag, n: usize)
     ensures { Traced work.old work.new t.0 n }
 {
     let mut v = t;
-    let mut i: usize = 0;
-    while i < n {
+    for i in 0..n {
         let k = harness_table::last_record(work, v);
         table::put_listed(work, i, k);
         v = far(work, k, v);
-        i += 1;
     }
 }

@@ -2,26 +2,25 @@
 // condition on its caller. Rests on haltzurme_own, where the record table is made, and on harness_rest.
 #![tactic(auto)]
 
+ghost use Rattle.call_look.specs.Seen.{number_of, place_of, length_of};
 ghost use Rattle.harness_own.specs.Own.{HarnessRanAlone, HarnessRecheckedAlone};
 
-use call_rest::{Answer, Finding};
-use haltzurme_own::{none, receive_over};
+pub use call_look::{Reason, Refusal};
+use haltzurme_own::{BLANK, receive_over};
 use harness_rest::{finish, weigh};
 
-// Answers a plain harness sheet: the report comes to the front of the room.
-pub fn run_sheet(job: &[u8], room: &mut [u8], work: &mut [u16]) -> Answer
-    ensures { HarnessRanAlone job.now room.old work.old result.number result.place result.length room.new work.new }
+// Answers a plain harness sheet with its report's length: the report comes to the front of the room.
+pub fn run_sheet(job: &[u8], room: &mut [u8], work: &mut [u16]) -> Result<usize, Refusal>
+    ensures { HarnessRanAlone job.now room.old work.old (number_of result) (place_of result) (length_of result) room.new work.new }
 {
-    let each = none();
-    let s = receive_over(job, work, each);
-    finish(job, room, work, s)
+    let looked = receive_over(job, work, BLANK);
+    finish(job, room, work, looked)
 }
 
 // Rechecks a report of a plain harness sheet.
-pub fn recheck_sheet(job: &[u8], report: &[u8], work: &mut [u16]) -> Finding
-    ensures { HarnessRecheckedAlone job.now report.now work.old result.number result.place work.new }
+pub fn recheck_sheet(job: &[u8], report: &[u8], work: &mut [u16]) -> Result<(), Refusal>
+    ensures { HarnessRecheckedAlone job.now report.now work.old (number_of result) (place_of result) work.new }
 {
-    let each = none();
-    let s = receive_over(job, work, each);
-    weigh(job, report, work, s)
+    let looked = receive_over(job, work, BLANK);
+    weigh(job, report, work, looked)
 }

@@ -6,7 +6,7 @@ ghost use Rattle.std.specs.Prelude.{◌≡◌, suc, ◌≤◌, length};
 ghost use Rattle.job_field.specs.Answer.{said};
 ghost use Rattle.harness_read.specs.Profile.{marked, apply_from, ends_at, place_in};
 
-use job_field::{Field, behind, read};
+use job_field::{Fault, Field, behind, read};
 
 // The kind of an application.
 const APPLICATION: u8 = 2;
@@ -28,16 +28,10 @@ fn is_application(job: &[u8], at: usize) -> bool
 }
 
 // Whether no other field stands behind it.
-pub fn ends(field: Field) -> bool
+pub fn ends(field: Result<Field, Fault>) -> bool
     ensures { result ≡ ends_at (said field) }
 {
-    match field {
-        Field::Bad(_) => true,
-        Field::Header(_, _, _) => false,
-        Field::Noted(_) => false,
-        Field::Posed(_) => false,
-        Field::End => true,
-    }
+    matches!(field, Ok(Field::End) | Err(_))
 }
 
 // The place of the first field of kind 02, or the job's length.

@@ -7,6 +7,7 @@ use mathlib.Core.List.Memᴰ
 use mathlib.Core.List.{List, [], ◌∷◌}
 use lib.ListN.{length, get_or}
 use Rattle.meaning.specs.Following.{Rec, eq, At, same}
+use Rattle.meaning.specs.Limits.{most_tags}
 use Rattle.meaning.proofs.Close.{more_of}
 use Rattle.meaning.proofs.Reference.{Small}
 use Rattle.table.specs.Map.{left_of, right_of, when_of, list_of, list_in, rec_at, records_in}
@@ -14,10 +15,10 @@ use Rattle.table.specs.Places.{scratch}
 use Rattle.table.proofs.Frame.{length-gather, get_or-gather, gather-in, within-refl, within-trans, within_wider}
 use Rattle.moment.specs.Meeting.{Met}
 use Rattle.moment.proofs.Kept.{kept-past}
-use Rattle.moment.proofs.Moments.{met-first}
+use Rattle.moment.proofs.Moments.{met-first, met-join}
 use Rattle.reason_order.specs.Rising.{Numbered, Sorted}
 use Rattle.reason.specs.Explaining.{Question}
-use Rattle.reason.specs.declared.Answer.TheVariants.{Because, Apart}
+use Rattle.std.proofs.Common.{Some, None}
 use Rattle.reason.proofs.Whole.{small-records, answer-never, answer-later}
 use Rattle.harness_meaning.specs.Harness.{Harness}
 use Rattle.harness_meaning.specs.Search.{Same, climb}
@@ -97,24 +98,24 @@ harness-same N rs R t small = harness-of (record { rising = tt; stand = λ k i. 
     none (k ∷ M) q = absurd (omega arith)
 
 module _ {N len n before s t : ℕ} {w : List ℕ} (Q : Question N len n before s t w) where
-  pub answer-same : s ≡ t → Explained N len n before s t w w (Because 0)
+  pub answer-same : s ≡ t → Explained N len n before s t w w (Some 0)
   answer-same q = record { kept = within-refl w; past = Q.past; says = rw q (harness-same N (records_in len w) before t (small-records Q.past.loaded)) }
 
-  pub answer-apart : {b : ℕ} → Met w s t b → n ≤ b → Explained N len n before s t w w Apart
-  answer-apart M l = record { kept = within-refl w; past = Q.past; says = (answer-never Q M l).says }
+  pub answer-apart : Met w s t most_tags → Explained N len n before s t w w None
+  answer-apart M = record { kept = within-refl w; past = Q.past; says = (answer-never Q M).says }
 
-  pub answer-after : {b k : ℕ} → Met w s t b → b < n → k ≡ when_of w b → before < k → Explained N len n before s t w w Apart
-  answer-after M l e h = record { kept = within-refl w; past = Q.past; says = (answer-later Q M l e h).says }
+  pub answer-after : {b k : ℕ} → Met w s t b × (b < most_tags) → k ≡ when_of w b → before < k → Explained N len n before s t w w None
+  answer-after M e h = record { kept = within-refl w; past = Q.past; says = (answer-later Q M e h).says }
 
-  pub asks-shortest : {b k : ℕ} → Plain len w → Met w s t b → b < n → k ≡ when_of w b → k ≤ before → Equal N len before s t w
-  asks-shortest {b} {k} p M l e h = record {
+  pub asks-shortest : {b k : ℕ} → Plain len w → Met w s t b × (b < most_tags) → k ≡ when_of w b → k ≤ before → Equal N len before s t w
+  asks-shortest {b} {k} p M e h = record {
     loaded = Q.past.loaded;
     plain = p;
     stands = Q.stands;
     s-tag = Q.s-tag;
     t-tag = Q.t-tag;
-    follows = more_of (λ m i. omega arith) (met-first Q.past M l).then;
+    follows = more_of (λ m i. omega arith) (met-first Q.past M.0 (met-join Q.past M.0 M.1)).then;
   }
 
-  pub answer-shortest : {c : ℕ} {w' : List ℕ} → Equal N len before s t w → Shortest before s t w w' c → Explained N len n before s t w w' (Because c)
+  pub answer-shortest : {c : ℕ} {w' : List ℕ} → Equal N len before s t w → Shortest before s t w w' c → Explained N len n before s t w w' (Some c)
   answer-shortest E S = record { kept = S.kept; past = kept-past S.kept Q.past; says = S.reason N len E }

@@ -33,7 +33,7 @@ chosen : (t : Bool) (a b c : ℕ) → IsEq (cond t (eq a b) (app a b c)) → con
 chosen true a b c i = refl
 chosen false a b c i = absurd i
 
-plain_in : (len : ℕ) (w : List ℕ) (is : List Item) → records_in len w ≡ records_of is → Equations is → Plain len w
+pub plain_in : (len : ℕ) (w : List ℕ) (is : List Item) → records_in len w ≡ records_of is → Equations is → Plain len w
 plain_in len w is r e k l =
     let g : get_or (records_of is) k (eq 0 0) ≡ rec_at w (suc k) = ap (λ (x : List Rec). get_or x k (eq 0 0)) (sym r) ∙ get_or-gather (λ j. rec_at w (suc j)) len k (eq 0 0) l in
     let n : length (records_of is) ≡ len = ap length (sym r) ∙ length-gather (λ j. rec_at w (suc j)) len in

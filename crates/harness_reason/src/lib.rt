@@ -1,6 +1,6 @@
 // The reason of a plain harness sheet: for two tags that are equal by the equations before a question, the fewest records that make them so, and of equally few
 // ones the smallest by first differing record number. Document 02, No. 8. Rests on moment, which tells whether two tags are equal at the question, on
-// harness_find, on reason_order, on table, and on reason, whose question and answer these are too.
+// harness_find, on reason_order, on table, and on reason, whose question this is too.
 #![tactic(auto)]
 
 ghost use Rattle.std.specs.Prelude.{ℕ, ◌≤◌, ◌<◌};
@@ -8,7 +8,6 @@ ghost use Rattle.reason.specs.Explaining.{Question};
 ghost use Rattle.harness_reason.specs.Explaining.{Plain, Wanted, Shortest, Explained};
 
 use meaning::Tag;
-use reason::Answer;
 
 // Writes the harness reason for two tags that are equal by the first `before` records into the list. Says how many numbers it has.
 fn shortest(work: &mut [u16], before: usize, s: Tag, t: Tag) -> usize
@@ -20,7 +19,8 @@ fn shortest(work: &mut [u16], before: usize, s: Tag, t: Tag) -> usize
     reason_order::put_rising(work, before, n)
 }
 
-// Answers whether s and t are equal by the first `before` of the records, which are all equations, and by which fewest of them.
+// By which fewest of the first `before` records, which are all equations, s and t are equal: how many numbers of the list are those, or none where that does
+// not follow.
 pub fn explain(
     work: &mut [u16],
     size: usize,
@@ -29,20 +29,17 @@ pub fn explain(
     before: usize,
     s: Tag,
     t: Tag,
-) -> Answer
+) -> Option<usize>
     requires question { Question size len joins before s.0 t.0 work.old }
     requires plain { Plain len work.old }
     ensures { Explained size len joins before s.0 t.0 work.old work.new result }
 {
-    if s.is(t) {
-        return Answer::Because(0);
+    if s == t {
+        return Some(0);
     }
-    let b = moment::met(work, s, t);
-    if b >= joins {
-        return Answer::Apart;
-    }
+    let b = moment::met(work, s, t)?;
     if moment::made(work, b) > before {
-        return Answer::Apart;
+        return None;
     }
-    Answer::Because(shortest(work, before, s, t))
+    Some(shortest(work, before, s, t))
 }

@@ -14,7 +14,7 @@ use Rattle.job_field.proofs.Standing.{job-stands}
 use Rattle.table.proofs.Frame.{within_wider}
 use Rattle.table.specs.Places.{named_part}
 use Rattle.answer_all.specs.Asking as a
-use Rattle.call_look.specs.declared.Sight.{Sight}
+use Rattle.call_look.specs.Seen.{Seen}
 use Rattle.call_look.specs.Clear.{Returned}
 use Rattle.call_look.proofs.Clearing.{cleared-after, returned-true, returned-false}
 use Rattle.call_rest.specs.Finish as fit
@@ -23,35 +23,46 @@ use Rattle.call_rest.proofs.Finishing.{Roomy}
 use Rattle.harness_read.specs.Profile.{Equations}
 use Rattle.harness_read.proofs.Bridge.{harness-accepted}
 use Rattle.harness_report.specs.Report.{HarnessSound}
-use Rattle.harness_answer.specs.Answering.{Responded}
+use Rattle.answer_all.specs.Asking.{Responded}
+use Rattle.harness_test.specs.Rules.{harness_rules}
 use Rattle.harness_rest.specs.Look as l
 use Rattle.harness_rest.specs.Look.{HarnessViewed, Profiled, HarnessLooked, HarnessBegun}
 use Rattle.harness_rest.specs.Finish as f
 use Rattle.harness_rest.specs.Finish.{Finished}
 use Rattle.harness_rest.proofs.Ready.{Ready, looked-ready, looked-lent, ready-lent, viewed-lent}
 
+-- Where the run may go on it is as it was seen.
+module _ {s : Seen} {room : ℕ} where
+  pub begun-fitted : {r : Seen} {job w : List ℕ} → HarnessBegun job w s → Fitted s room r → r.ready ≡ true → HarnessBegun job w r
+  begun-fitted h (fit.cramped k) q = let z : ◌≡◌ {A = ℕ} 0 1 = cc in absurd (omega arith)
+  begun-fitted h (fit.roomy k) q = h
+
+  pub finished-fitted : {r : Seen} {job rs w rs' w' : List ℕ} {n p l : ℕ} → Fitted s room r → r.ready ≡ true → Finished job rs w r n p l rs' w' → Finished job rs w s n p l rs' w'
+  finished-fitted (fit.cramped k) q x = let z : ◌≡◌ {A = ℕ} 0 1 = cc in absurd (omega arith)
+  finished-fitted (fit.roomy k) q x = x
+
 -- Only an accepted job needs room.
-needed-ready : {job : List ℕ} {c n room : ℕ} (s : Sight) → HarnessLooked job c n s → room < s.needed → s.ready ≡ true
+needed-ready : {job : List ℕ} {c n room : ℕ} (s : Seen) → HarnessLooked job c n s → room < s.needed → s.ready ≡ true
 needed-ready s (l.long h) k = absurd (omega arith)
 needed-ready s (l.narrow h o) k = absurd (omega arith)
 needed-ready s (l.viewed h (l.unread e)) k = absurd (omega arith)
 needed-ready s (l.viewed h (l.ready e)) k = refl
 
 -- A refusal is as it was seen.
-looked-refused : {job w w' : List ℕ} {c n : ℕ} (room : List ℕ) (s : Sight) → HarnessLooked job c n s → s.ready ≡ false → Returned s.lent w w' → Finished job room w s s.number s.place 0 room w'
+looked-refused : {job w w' : List ℕ} {c n : ℕ} (room : List ℕ) (s : Seen) → HarnessLooked job c n s → s.ready ≡ false → Returned s.lent w w' → Finished job room w s s.number s.place 0 room w'
 looked-refused {job} {w} room s (l.long h) q x = subst (λ (v : List ℕ). Finished job room w s 1 0 0 room v) (sym (returned-false x refl)) (f.declined refl)
 looked-refused {job} {w} room s (l.narrow h o) q x = subst (λ (v : List ℕ). Finished job room w s 2 0 0 room v) (sym (returned-false x refl)) (f.declined refl)
 looked-refused room s (l.viewed h (l.unread e)) q x = f.unread refl e (returned-true x refl)
 looked-refused room s (l.viewed h (l.ready e)) q x = let z : ◌≡◌ {A = ℕ} 0 1 = cc in absurd (omega arith)
 
 -- The work table is as long as named where it is cleared.
-pub fitted-long : {job w : List ℕ} {room : ℕ} {s : Sight} → HarnessBegun job w s → (r : Sight) → Fitted s room r → (r.lent ≡ true) ⊎ (r.ready ≡ true) → named_numbers ≤ length w
+pub fitted-long : {job w : List ℕ} {room : ℕ} {s : Seen} → HarnessBegun job w s → (r : Seen) → Fitted s room r → (r.lent ≡ true) ⊎ (r.ready ≡ true) → named_numbers ≤ length w
 fitted-long {s = s} h r (fit.cramped k) o = (looked-lent s h.looked (ready-lent s h.looked (needed-ready s h.looked k))).enough.numbers
 fitted-long {s = s} h r (fit.roomy k) (inl q) = (looked-lent s h.looked q).enough.numbers
 fitted-long {s = s} h r (fit.roomy k) (inr q) = (looked-lent s h.looked (ready-lent s h.looked q)).enough.numbers
 
-module _ (job room w : List ℕ) (s : Sight) (h : HarnessBegun job w s) where
-  pub finish-refused : (r : Sight) (w' : List ℕ) → Fitted s (length room) r → r.ready ≡ false → Returned r.lent w w' → Finished job room w s r.number r.place 0 room w'
+module _ (job room w : List ℕ) (s : Seen) (h : HarnessBegun job w s) where
+  pub finish-refused : (r : Seen) (w' : List ℕ) → Fitted s (length room) r → r.ready ≡ false → Returned r.lent w w' → Finished job room w s r.number r.place 0 room w'
   finish-refused r w' (fit.cramped k) q x =
       let g : s.ready ≡ true = needed-ready s h.looked k in
       let y : Ready job s = looked-ready s h.looked g in
@@ -88,14 +99,14 @@ module _ (job room w : List ℕ) (s : Sight) (h : HarnessBegun job w s) where
       subst (λ (x : List Item). Equations x) (sym same) plain,
     )
 
-    pub finish-done : (room' w' w'' : List ℕ) (n : ℕ) → Responded job room w room' w' n → Returned true w' w'' → Finished job room w s 0 0 n room' w''
+    pub finish-done : (room' w' w'' : List ℕ) (n : ℕ) → Responded harness_rules job room w room' w' n → Returned true w' w'' → Finished job room w s 0 0 n room' w''
     finish-done room' w' w'' n d x =
         rw (d.size, d.front)
         (f.done (ready-lent s h.looked o.ready) seen.reads enough (subst (λ (x : Reading). HarnessSound (matter_of (head_of x) (items_of x)) start (items_of x) d.bytes) is d.sound)
         (cleared-after (within_wider named_part (omega arith) (omega arith) d.kept) (returned-true x refl)))
 
 -- As it was seen before the profile.
-pub finished-seen : {job room w : List ℕ} {s r : Sight} → Profiled job s r → {n p k : ℕ} {room' w' : List ℕ} → Finished job room w r n p k room' w' → Finished job room w s n p k room' w'
+pub finished-seen : {job room w : List ℕ} {s r : Seen} → Profiled job s r → {n p k : ℕ} {room' w' : List ℕ} → Finished job room w r n p k room' w' → Finished job room w s n p k room' w'
 finished-seen (l.declined q) x = x
 finished-seen {r = r} (l.viewed q v e) (f.declined d) = let y : r.lent ≡ true = viewed-lent r v in let z : ◌≡◌ {A = ℕ} 0 1 = cc in absurd (omega arith)
 finished-seen (l.viewed q v e) (f.unread y i c) = f.unread q i c

@@ -8,7 +8,7 @@ use lib.ListN.{length}
 use borrow.Author.Tests.{lt-ltb, le-ltb}
 use Rattle.job_field.specs.Items.{Head, Item, Reading, refused, accepted}
 use Rattle.job_field.specs.Reading.{reading}
-use Rattle.call_look.specs.declared.Sight.{Sight}
+use Rattle.call_look.specs.Seen.{Seen}
 use Rattle.call_look.specs.Look as seen
 use Rattle.call_look.specs.Look.{Viewed, Looked, faulty}
 use Rattle.call_look.specs.Begun.{Begun}
@@ -19,7 +19,7 @@ use Rattle.harness_rest.specs.Look as l
 use Rattle.harness_rest.specs.Look.{HarnessViewed, Profiled, HarnessLooked, HarnessBegun}
 
 -- A refusal does not let the call go on.
-not-ready : {r s : Sight} (n a : ℕ) → r ≡ faulty n a → r.ready ≡ true → r ≡ s
+not-ready : {r s : Seen} (n a : ℕ) → r ≡ faulty n a → r.ready ≡ true → r ≡ s
 not-ready n a e q = let z : ◌≡◌ {A = ℕ} 0 1 = cc in absurd (omega arith)
 
 -- Where the walk comes to no field of kind 02, and where it comes to one.
@@ -43,27 +43,27 @@ module _ (job : List ℕ) (p : ℕ) (w : place_in (length job) p ≡ apply_from 
   accepted-marked : (H : Head) (is : List Item) → p < length job → reading job ≡ accepted H is → harness_reading job ≡ refused 4 p
   accepted-marked H is h e = harness-reading job ∙ rw (e, some-there h) refl
 
-  pub profile-none : (s : Sight) → length job ≤ p → s.lent ≡ true → Viewed job s → Profiled job s s
+  pub profile-none : (s : Seen) → length job ≤ p → s.lent ≡ true → Viewed job s → Profiled job s s
   profile-none s h q (seen.unread {n = n} {p = a} e) = l.viewed q (l.unread (unmarked (refused n a) h e)) (λ r. refl)
   profile-none s h q (seen.ready {H = H} {items = is} e) = l.viewed q (l.ready (unmarked (accepted H is) h e)) (λ r. refl)
 
-  pub profile-ready : (s r : Sight) → p < length job → s.lent ≡ true → s.ready ≡ true → Viewed job s → r ≡ faulty 4 p → Profiled job s r
+  pub profile-ready : (s r : Seen) → p < length job → s.lent ≡ true → s.ready ≡ true → Viewed job s → r ≡ faulty 4 p → Profiled job s r
   profile-ready s r h q k (seen.unread e) f = let z : ◌≡◌ {A = ℕ} 0 1 = cc in absurd (omega arith)
   profile-ready s r h q k (seen.ready {H = H} {items = is} e) f = rw f (l.viewed q (l.unread (accepted-marked H is h e)) (λ x. not-ready 4 p refl x))
 
-  pub profile-sooner : (s : Sight) → p < length job → s.lent ≡ true → s.ready ≡ false → s.place < p → Viewed job s → Profiled job s s
+  pub profile-sooner : (s : Seen) → p < length job → s.lent ≡ true → s.ready ≡ false → s.place < p → Viewed job s → Profiled job s s
   profile-sooner s h q k o (seen.unread {n = n} {p = a} e) = l.viewed q (l.unread (refused-sooner n a h o e)) (λ r. refl)
   profile-sooner s h q k o (seen.ready e) = let z : ◌≡◌ {A = ℕ} 0 1 = cc in absurd (omega arith)
 
-  pub profile-later : (s r : Sight) → p < length job → s.lent ≡ true → s.ready ≡ false → p ≤ s.place → Viewed job s → r ≡ faulty 4 p → Profiled job s r
+  pub profile-later : (s r : Seen) → p < length job → s.lent ≡ true → s.ready ≡ false → p ≤ s.place → Viewed job s → r ≡ faulty 4 p → Profiled job s r
   profile-later s r h q k o (seen.unread {n = n} {p = a} e) f = rw f (l.viewed q (l.unread (refused-later n a h o e)) (λ x. not-ready 4 p refl x))
   profile-later s r h q k o (seen.ready e) f = let z : ◌≡◌ {A = ℕ} 0 1 = cc in absurd (omega arith)
 
 -- What the rest of a call begins with, in this profile.
-pub begun-viewed : {job w : List ℕ} {s : Sight} → Begun job w s → s.lent ≡ true → Viewed job s
+pub begun-viewed : {job w : List ℕ} {s : Seen} → Begun job w s → s.lent ≡ true → Viewed job s
 begun-viewed {s = s} b q = (looked-lent s b.looked q).viewed
 
-looked-too : {job : List ℕ} {s r : Sight} {places n : ℕ} → Looked job places n s → Profiled job s r → HarnessLooked job places n r
+looked-too : {job : List ℕ} {s r : Seen} {places n : ℕ} → Looked job places n s → Profiled job s r → HarnessLooked job places n r
 looked-too (seen.long h) (l.declined q) = l.long h
 looked-too (seen.long h) (l.viewed q v e) = let z : ◌≡◌ {A = ℕ} 0 1 = cc in absurd (omega arith)
 looked-too (seen.narrow h o) (l.declined q) = l.narrow h o
@@ -72,11 +72,11 @@ looked-too (seen.viewed h (seen.unread x)) (l.declined q) = let z : ◌≡◌ {A
 looked-too (seen.viewed h (seen.ready x)) (l.declined q) = let z : ◌≡◌ {A = ℕ} 0 1 = cc in absurd (omega arith)
 looked-too (seen.viewed h x) (l.viewed q v e) = l.viewed h v
 
-same-where : {job : List ℕ} {s r : Sight} → Profiled job s r → r.ready ≡ true → r ≡ s
+same-where : {job : List ℕ} {s r : Seen} → Profiled job s r → r.ready ≡ true → r ≡ s
 same-where (l.declined q) k = refl
 same-where (l.viewed q v e) k = e k
 
-pub begun-profile : {job w : List ℕ} {s : Sight} → Begun job w s → (r : Sight) → Profiled job s r → HarnessBegun job w r
+pub begun-profile : {job w : List ℕ} {s : Seen} → Begun job w s → (r : Seen) → Profiled job s r → HarnessBegun job w r
 begun-profile {job} {w} {s} b r f = record {
   places = b.places;
   looked = looked-too b.looked f;

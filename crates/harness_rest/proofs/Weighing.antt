@@ -17,16 +17,16 @@ use Rattle.table.proofs.Frame.{within_wider, within-trans}
 use Rattle.table.proofs.Kept.{records-same}
 use Rattle.table.specs.Places.{named_part}
 use Rattle.all_close.specs.Closing.{Closing}
-use Rattle.judge.specs.Judging.{Judgeable}
-use Rattle.judge.specs.declared.Judgement.{Judgement}
-use Rattle.call_look.specs.declared.Sight.{Sight}
+use Rattle.std.specs.Prelude.{Result}
+use Rattle.judge.specs.Judging as g
+use Rattle.judge.specs.Judging.{Judgeable, Judged, Verdict}
+use Rattle.harness_test.specs.Rules.{harness_rules}
+use Rattle.call_look.specs.Seen.{Seen, number_of, place_of}
 use Rattle.call_look.specs.Clear.{Cleared, Returned}
 use Rattle.call_look.proofs.Clearing.{cleared-after, returned-true, returned-false}
 use Rattle.call_rest.specs.Weigh.{finding_of}
 use Rattle.harness_read.specs.Profile.{Equations}
 use Rattle.harness_read.proofs.Bridge.{harness-accepted}
-use Rattle.harness_judge.specs.Judging as g
-use Rattle.harness_judge.specs.Judging.{Judged, Verdict}
 use Rattle.harness_rest.specs.Look as l
 use Rattle.harness_rest.specs.Look.{Profiled, HarnessLooked, HarnessBegun}
 use Rattle.harness_rest.specs.Weigh as c
@@ -34,13 +34,13 @@ use Rattle.harness_rest.specs.Weigh.{Weighed}
 use Rattle.harness_rest.proofs.Ready.{Ready, looked-ready, looked-lent, ready-lent, viewed-lent}
 
 -- A refusal is as it was seen.
-looked-refused : {job report w w' : List ℕ} {p n : ℕ} (s : Sight) → HarnessLooked job p n s → s.ready ≡ false → Returned s.lent w w' → Weighed job report w s s.number s.place w'
+looked-refused : {job report w w' : List ℕ} {p n : ℕ} (s : Seen) → HarnessLooked job p n s → s.ready ≡ false → Returned s.lent w w' → Weighed job report w s s.number s.place w'
 looked-refused {job} {report} {w} s (l.long h) q x = subst (λ (v : List ℕ). Weighed job report w s 1 0 v) (sym (returned-false x refl)) (c.declined refl)
 looked-refused {job} {report} {w} s (l.narrow h o) q x = subst (λ (v : List ℕ). Weighed job report w s 2 0 v) (sym (returned-false x refl)) (c.declined refl)
 looked-refused s (l.viewed h (l.unread e)) q x = c.unread refl e (returned-true x refl)
 looked-refused s (l.viewed h (l.ready e)) q x = let z : ◌≡◌ {A = ℕ} 0 1 = cc in absurd (omega arith)
 
-module _ (job report w : List ℕ) (s : Sight) (h : HarnessBegun job w s) where
+module _ (job report w : List ℕ) (s : Seen) (h : HarnessBegun job w s) where
   pub weigh-refused : (w' : List ℕ) → s.ready ≡ false → Returned s.lent w w' → Weighed job report w s s.number s.place w'
   weigh-refused w' q x = looked-refused s h.looked q x
 
@@ -82,18 +82,18 @@ module _ (job report w : List ℕ) (s : Sight) (h : HarnessBegun job w s) where
         plain,
       )
 
-      pub weigh-done : (w'' w''' : List ℕ) (j : Judgement) → Judged job report w' w'' j → Returned true w'' w''' → Weighed job report w s (finding_of j).number (finding_of j).place w'''
-      weigh-done w'' w''' j b x = go j (subst (λ (x : Reading). Verdict (matter_of (head_of x) (items_of x)) start (items_of x) 0 report j) reads b.verdict)
+      pub weigh-done : (w'' w''' : List ℕ) (j : Result (Unit {0}) ℕ) → Judged harness_rules job report w' w'' j → Returned true w'' w''' → Weighed job report w s (number_of (finding_of j)) (place_of (finding_of j)) w'''
+      weigh-done w'' w''' j b x = go j (subst (λ (x : Reading). Verdict harness_rules (matter_of (head_of x) (items_of x)) start (items_of x) 0 report j) reads b.verdict)
         where
           emptied : Cleared w w'''
           emptied = cleared-after (within-trans (within_wider named_part (omega arith) (omega arith) d.kept) (within_wider named_part (omega arith) (omega arith) b.kept)) (returned-true x refl)
 
-          go : (i : Judgement) → Verdict (matter_of viewed.head viewed.items) start viewed.items 0 report i → Weighed job report w s (finding_of i).number (finding_of i).place w'''
+          go : (i : Result (Unit {0}) ℕ) → Verdict harness_rules (matter_of viewed.head viewed.items) start viewed.items 0 report i → Weighed job report w s (number_of (finding_of i)) (place_of (finding_of i)) w'''
           go i (g.sound o) = c.sound lent viewed.reads o emptied
           go i (g.fault o) = c.unsound lent viewed.reads o emptied
 
 -- As it was seen before the profile.
-pub weighed-seen : {job report w : List ℕ} {s r : Sight} → Profiled job s r → {n p : ℕ} {w' : List ℕ} → Weighed job report w r n p w' → Weighed job report w s n p w'
+pub weighed-seen : {job report w : List ℕ} {s r : Seen} → Profiled job s r → {n p : ℕ} {w' : List ℕ} → Weighed job report w r n p w' → Weighed job report w s n p w'
 weighed-seen (l.declined q) x = x
 weighed-seen {r = r} (l.viewed q v e) (c.declined d) = let y : r.lent ≡ true = viewed-lent r v in let z : ◌≡◌ {A = ℕ} 0 1 = cc in absurd (omega arith)
 weighed-seen (l.viewed q v e) (c.unread y i x) = c.unread q i x

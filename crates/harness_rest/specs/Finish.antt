@@ -5,12 +5,12 @@ use Rattle.std.specs.Prelude.{ℕ, ◌≤◌, ◌<◌, ◌≡◌, true, false, L
 use Rattle.job_field.specs.Items.{Head, Item, start, matter_of, refused, accepted, needed_room}
 use Rattle.harness_read.specs.Profile.{harness_reading}
 use Rattle.harness_report.specs.Report.{HarnessSound}
-use Rattle.call_look.specs.declared.Sight.{Sight}
+use Rattle.call_look.specs.Seen.{Seen}
 use Rattle.call_look.specs.Clear.{Cleared}
 
 -- What the rest of the run answers, and what it leaves in the room and the work table. A refusal for lengths alone changes nothing; the other
 -- cases are those of the harness run behind 1 and 2.
-pub data Finished (job room work : List ℕ) (s : Sight) : ℕ → ℕ → ℕ → List ℕ → List ℕ → Type 0 where
+pub data Finished (job room work : List ℕ) (s : Seen) : ℕ → ℕ → ℕ → List ℕ → List ℕ → Type 0 where
   declined : s.lent ≡ false → Finished job room work s s.number s.place 0 room work
   unread : {n p : ℕ} {work' : List ℕ} → s.lent ≡ true → harness_reading job ≡ refused n p → Cleared work work' → Finished job room work s n p 0 room work'
   cramped : {H : Head} {items : List Item} {work' : List ℕ} → s.lent ≡ true → harness_reading job ≡ accepted H items → length room < needed_room H start items → Cleared work work' → Finished job room work s 9 0 0 room work'

@@ -23,7 +23,7 @@ use Rattle.harness.proofs.Passing.{harness-refused-some}
 use Rattle.harness_own.specs.Own.{HarnessRanAlone}
 use Rattle.text.specs.Lines.{lines_of, refusal_line, text_of}
 use Rattle.text.specs.Told.{Accepted}
-use Rattle.text.specs.declared.Told.{Told}
+use Rattle.std.specs.Prelude.{Option}
 use Rattle.text.specs.Answered.{answer_text, Answered}
 use Rattle.harness_saying.specs.Says.{long, narrow, unread, cramped, HarnessSays, answers, refuses, HarnessTrue}
 
@@ -61,7 +61,7 @@ module _ {job room work : List ℕ} where
   ran-accepted (run.cramped i e s m) z = absurd (omega arith)
   ran-accepted (run.done {H} {items} i e s r m) z = record { head = H; items = items; reads = ((harness-accepted job H items).0 e).0 }
 
-  pub ran-true : {n p l : ℕ} {room' work' out out' : List ℕ} {told : Told} → HarnessRanAlone job room work n p l room' work' → Answered job room' n p l out out' told → HarnessTrue job room work out out' told
+  pub ran-true : {n p l : ℕ} {room' work' out out' : List ℕ} {told : Option ℕ} → HarnessRanAlone job room work n p l room' work' → Answered job room' n p l out out' told → HarnessTrue job room work out out' told
   ran-true {n} {p} {l} {room'} r a = record {
     text = answer_text job room' n p l;
     says = ran_says r.ran;

@@ -1,14 +1,12 @@
 -- Document 01, "The program", and document 02, No. 8: what the whole text says of a plain harness sheet, where so many bytes of room and numbers of the work table are lent. The
 -- lines of an accepted sheet are those of its one sound report, a line a field (`lines_of`). Assumes nothing.
-use Rattle.std.specs.Prelude.{ℕ, ◌≤◌, ◌<◌, ◌≡◌, List, [], ◌∷◌, length}
+use Rattle.std.specs.Prelude.{ℕ, ◌≤◌, ◌<◌, ◌≡◌, List, [], ◌∷◌, length, Option, Some}
 use Rattle.meaning.specs.Limits.{named_numbers}
 use Rattle.job_field.specs.Items.{Head, Item, start, matter_of, refused, accepted, needed_room}
 use Rattle.job_field.specs.Reading.{longest}
 use Rattle.text_line.specs.Line.{line}
 use Rattle.text.specs.Lines.{lines_of}
 use Rattle.text.specs.Told.{Tells}
-use Rattle.text.specs.declared.Told.{Told}
-use Rattle.text.specs.declared.Told.TheVariants.{Whole}
 use Rattle.harness_read.specs.Profile.{harness_reading}
 use Rattle.harness_report.specs.Report.{HarnessSound}
 
@@ -26,8 +24,8 @@ pub data HarnessSays (job : List ℕ) (room numbers : ℕ) : List ℕ → Type 0
   refuses : {n p : ℕ} → HarnessRefuses job room numbers n p → HarnessSays job room numbers (line 82 (n ∷ p ∷ []))
 
 -- What is told is true of the sheet. A room of 60,000 bytes at most gives no text that 214,014 bytes do not hold.
-pub record HarnessTrue (job room work out out' : List ℕ) (told : Told) : Type 0 where
+pub record HarnessTrue (job room work out out' : List ℕ) (told : Option ℕ) : Type 0 where
   pub text : List ℕ
   pub says : HarnessSays job (length room) (length work) text
   pub tells : Tells text out out' told
-  pub fits : length room ≤ 60000 → 214014 ≤ length out → told ≡ Whole (length text)
+  pub fits : length room ≤ 60000 → 214014 ≤ length out → told ≡ Some (length text)

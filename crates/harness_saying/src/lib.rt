@@ -5,12 +5,14 @@
 ghost use Rattle.harness_saying.specs.Says.{HarnessTrue};
 
 use harness_own::run_sheet;
-use text::{Told, tell_answer};
+use text::tell_answer;
 
 // Runs a sheet and puts the lines of its report, or the line of its refusal, into a lent room of bytes.
-pub fn answer_sheet(job: &[u8], room: &mut [u8], work: &mut [u16], out: &mut [u8]) -> Told
+pub fn answer_sheet(job: &[u8], room: &mut [u8], work: &mut [u16], out: &mut [u8]) -> Option<usize>
     ensures { HarnessTrue job.now room.old work.old out.old out.new result }
 {
-    let ran = run_sheet(job, room, work);
-    tell_answer(job, room, ran.number, ran.place, ran.length, out)
+    match run_sheet(job, room, work) {
+        Ok(length) => tell_answer(job, room, 0, 0, length, out),
+        Err(refusal) => tell_answer(job, room, u8::from(refusal.reason), refusal.place, 0, out),
+    }
 }

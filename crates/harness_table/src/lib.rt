@@ -10,10 +10,10 @@
 // SAVED                         1,000  by tag             the last record of the best way to it
 //
 // When the search is over, the way back is written at the front of LIST, over the first of these.
-#![tactic(auto)]
+#![tactic(auto, using(table::proofs::Frame::seen_at))]
 
-ghost use Rattle.std.specs.Prelude.{◌≡◌, ℕ, ◌+◌, ◌≤◌, ◌<◌, length, get_or, set};
-ghost use Rattle.meaning.specs.Limits.{most_records, most_tags, named_numbers};
+ghost use Rattle.std.specs.Prelude.{◌≡◌, ◌+◌, ◌≤◌, ◌<◌, set};
+ghost use Rattle.meaning.specs.Limits.{most_records, most_tags};
 ghost use Rattle.table.specs.Places.{Large};
 ghost use Rattle.harness_table.specs.Levels.{LEVELS, LASTS, FOUND as found_region, link_at, start_at, lev_in, last_in, link_in, start_in, found_in};
 
@@ -28,43 +28,19 @@ const FOUND: usize = STARTS + 2 * meaning::MOST_TAGS;
 // The level of a tag that was not found.
 pub const UNFOUND: usize = meaning::MOST_RECORDS;
 
-// The number that stands at a place of a region.
-fn cell(work: &[u16], region: usize, x: usize) -> u16
-    requires { Large work.now × (region + x < named_numbers) }
-    ensures { result ≡ get_or work.now (region + x) 0 }
-{
-    work[region + x]
-}
-
-// A number is stored there.
-fn store(work: &mut [u16], region: usize, x: usize, v: u16)
-    requires { Large work.old × (region + x < named_numbers) }
-    ensures { work.new ≡ set work.old (region + x) v }
-{
-    work[region + x] = v;
-}
-
-fn wide(x: u16) -> usize
-    ensures { result ≡ x }
-{
-    x as usize
-}
-
 // The level of a tag.
 pub fn level(work: &[u16], x: Tag) -> usize
     requires { Large work.now × (x.0 < most_tags) }
     ensures { result ≡ lev_in work.now x.0 }
 {
-    let k = x.place();
-    wide(cell(work, table::MARKS, k))
+    usize::from(work[table::MARKS + x.place()])
 }
 
 pub fn put_level(work: &mut [u16], x: Tag, d: usize)
     requires { Large work.old × (x.0 < most_tags) × (d ≤ most_records) }
     ensures { work.new ≡ set work.old (LEVELS.at + x.0) d }
 {
-    let k = x.place();
-    store(work, table::MARKS, k, d as u16);
+    work[table::MARKS + x.place()] = d as u16;
 }
 
 // The last record of the best way to a tag.
@@ -72,21 +48,17 @@ pub fn last_record(work: &[u16], x: Tag) -> RecordNo
     requires { Large work.now × (x.0 < most_tags) }
     ensures { result.0 ≡ last_in work.now x.0 }
 {
-    let k = x.place();
-    let v = cell(work, table::SAVED, k);
-    RecordNo::of(v)
+    RecordNo::of(work[table::SAVED + x.place()])
 }
 
 pub fn put_last_record(work: &mut [u16], x: Tag, r: RecordNo)
     requires { Large work.old × (x.0 < most_tags) }
     ensures { work.new ≡ set work.old (LASTS.at + x.0) r.0 }
 {
-    let k = x.place();
-    let v = r.number();
-    store(work, table::SAVED, k, v);
+    work[table::SAVED + x.place()] = r.number();
 }
 
-// Where the lists of uses lead on, by record, and begin, by tag.
+// Where the lists of uses lead on, by record, and begin, by tag. They stay beside the lists of uses of table: these lead on by place, with one more for a link.
 fn links(second: bool) -> usize
     ensures { result ≡ link_at second }
 {
@@ -110,10 +82,7 @@ pub fn last_use(work: &[u16], second: bool, x: Tag) -> RecordNo
     requires { Large work.now × (x.0 < most_tags) }
     ensures { result.0 ≡ start_in second work.now x.0 }
 {
-    let k = x.place();
-    let at = starts(second);
-    let v = cell(work, at, k);
-    RecordNo::of(v)
+    RecordNo::of(work[starts(second) + x.place()])
 }
 
 // The one before a record, for its tag.
@@ -121,10 +90,7 @@ pub fn use_before(work: &[u16], second: bool, r: RecordNo) -> RecordNo
     requires { Large work.now × (r.0 ≤ most_records) }
     ensures { result.0 ≡ link_in second work.now r.0 }
 {
-    let k = r.place();
-    let at = links(second);
-    let v = cell(work, at, k);
-    RecordNo::of(v)
+    RecordNo::of(work[links(second) + r.place()])
 }
 
 // No record has a tag.
@@ -132,9 +98,7 @@ pub fn clear_use(work: &mut [u16], second: bool, x: Tag)
     requires { Large work.old × (x.0 < most_tags) }
     ensures { work.new ≡ set work.old (start_at second + x.0) 0 }
 {
-    let k = x.place();
-    let at = starts(second);
-    store(work, at, k, 0);
+    work[starts(second) + x.place()] = 0;
 }
 
 // A record is the last that has a tag, and before it is the one that was.
@@ -142,14 +106,9 @@ pub fn put_use(work: &mut [u16], second: bool, x: Tag, r: RecordNo)
     requires { Large work.old × (x.0 < most_tags) × (r.0 ≤ most_records) }
     ensures { work.new ≡ set (set work.old (link_at second + r.0) (start_in second work.old x.0)) (start_at second + x.0) r.0 }
 {
-    let k = x.place();
-    let n = r.place();
-    let v = r.number();
-    let at = starts(second);
-    let to = links(second);
-    let p = cell(work, at, k);
-    store(work, to, n, p);
-    store(work, at, k, v);
+    let at = starts(second) + x.place();
+    work[links(second) + r.place()] = work[at];
+    work[at] = r.number();
 }
 
 // The tags in the order in which they were found.
@@ -157,14 +116,12 @@ pub fn found(work: &[u16], i: usize) -> Tag
     requires { Large work.now × (i < most_tags) }
     ensures { result.0 ≡ found_in work.now i }
 {
-    let v = cell(work, FOUND, i);
-    Tag::of(v)
+    Tag::of(work[FOUND + i])
 }
 
 pub fn put_found(work: &mut [u16], i: usize, x: Tag)
     requires { Large work.old × (i < most_tags) }
     ensures { work.new ≡ set work.old (found_region.at + i) x.0 }
 {
-    let v = x.number();
-    store(work, FOUND, i, v);
+    work[FOUND + i] = x.number();
 }

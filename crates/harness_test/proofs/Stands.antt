@@ -31,19 +31,21 @@ use Rattle.moment.specs.Posed.{head_asked}
 use Rattle.pairs.specs.declared.Differing.{Differing}
 use Rattle.pairs.specs.Found.{Found}
 use Rattle.pairs.specs.Breaking.{Breaking}
-use Rattle.answer_ask.specs.declared.Passed.{Passed}
-use Rattle.answer_ask.specs.declared.Passed.TheVariants.{To, Wrong}
+use Rattle.std.specs.Prelude.{Result, Ok, Err}
 use Rattle.answer_ask.specs.Right as right
 use Rattle.answer_ask.specs.Right.{RightAt}
 use Rattle.answer_ask.proofs.Right.{found}
-use Rattle.judge_sheets.specs.Behind.{Behind, Filing, stood, missing, Reasoning, Turned}
-use Rattle.judge_explain.specs.Right.{Explaining}
+use Rattle.judge_sheets.specs.Behind.{Behind, Filing, stood, missing, Sheeted}
+use Rattle.judge_explain.specs.Right.{Explaining, Explained}
+use Rattle.judge_broken.specs.Checked.{Checked}
+use Rattle.judge_sheets.specs.Passing.{PassedAt, to, astray, wrong}
+use Rattle.harness_test.specs.Rules.{harness_rules}
 use Rattle.harness_meaning.specs.Harness.{Harness}
 use Rattle.harness_report.specs.Report.{HarnessReasoned, breached, HarnessAnswers, reasoned, intact}
 use Rattle.harness_report.proofs.Fits.{harness-few}
 use Rattle.harness_report.proofs.Known.{harness-because-known, harness-apart-known}
 use Rattle.harness_report.proofs.One.{harness-reasoned-one, none_apart, none-intact, reason-only, harness-answers-one}
-use Rattle.harness_test.specs.Stands.{IsField, FieldAt, PassedAt, to, astray, wrong, Explained, Broke, Breached, Checked}
+use Rattle.harness_test.specs.Stands.{IsField, FieldAt, Broke, Breached}
 
 -- What stands at the front of a field.
 module _ {report : List ℕ} {at : ℕ} where
@@ -68,17 +70,17 @@ module _ {report : List ℕ} {at : ℕ} where
 
 -- Whether a field that is known stands there.
 module _ (report : List ℕ) (at K : ℕ) (B : List ℕ) where
-  pub stands-right : {n : ℕ} → FieldAt report at K n → n ≡ length B → Holds report (at + 3) B → RightAt (IsField (field K B)) report at (To (at + 3 + n))
+  pub stands-right : {n : ℕ} → FieldAt report at K n → n ≡ length B → Holds report (at + 3) B → RightAt (IsField (field K B)) report at (Ok (at + 3 + n))
   stands-right {n} f e h =
       let b : f.body ≡ B = holds-one report (at + 3) f.body B (f.long ∙ e) (field-body report at K f.body f.holds) h in
       let g : Holds report at (field K B) = rw b at f.holds in
       right.to {p = at + 3 + n} refl g (omega (arith, length-field K B))
 
-  pub stands-not : {n : ℕ} → n ≡ length B → (FieldAt report at K n → ⊥) → RightAt (IsField (field K B)) report at Wrong
-  stands-not e h = right.wrong (λ x. let r = found report at x in h (record { body = B; long = sym e; holds = rw r.is at r.holds }))
+  pub stands-not : {n : ℕ} → n ≡ length B → (FieldAt report at K n → ⊥) → RightAt (IsField (field K B)) report at (Err at)
+  stands-not e h = right.wrong (λ x. let r = found report at x in h (record { body = B; long = sym e; holds = rw r.is at r.holds })) refl
 
-  pub stands-other : (Holds report (at + 3) B → ⊥) → RightAt (IsField (field K B)) report at Wrong
-  stands-other h = right.wrong (λ x. let r = found report at x in h (field-body report at K B (rw r.is at r.holds)))
+  pub stands-other : (Holds report (at + 3) B → ⊥) → RightAt (IsField (field K B)) report at (Err at)
+  stands-other h = right.wrong (λ x. let r = found report at x in h (field-body report at K B (rw r.is at r.holds))) refl
 
 -- A number and a list behind it.
 module _ (report : List ℕ) (at k : ℕ) (L : List ℕ) where
@@ -116,19 +118,19 @@ untrue h e a = let t = h.1 a in let z : ◌≡◌ {A = ℕ} 0 1 = cc in omega ar
 
 -- A field without a body.
 module _ {report : List ℕ} {at : ℕ} (kind : ℕ) where
-  pub bare-right : Holds report at (field kind []) → RightAt (IsField (field kind [])) report at (To (at + 3))
+  pub bare-right : Holds report at (field kind []) → RightAt (IsField (field kind [])) report at (Ok (at + 3))
   bare-right h = right.to {p = at + 3} refl h (omega (arith, length-field kind []))
 
-  pub bare-wrong : (Holds report at (field kind []) → ⊥) → RightAt (IsField (field kind [])) report at Wrong
-  bare-wrong n = right.wrong (λ x. let r = found report at x in n (rw r.is at r.holds))
+  pub bare-wrong : (Holds report at (field kind []) → ⊥) → RightAt (IsField (field kind [])) report at (Err at)
+  bare-wrong n = right.wrong (λ x. let r = found report at x in n (rw r.is at r.holds)) refl
 
 -- A field that is no reason, where the question has none.
 pub none-stands : {M : Matter} {b : Moment} {q : Question} {L bs : List ℕ} → ((K g : List ℕ) → HarnessReasoned M b q K g → ⊥) → Stands (HarnessReasoned M b q L) bs → ⊥
 none-stands n (stands r rest) = n _ _ r
 
-pub lone-passed : {M : Matter} {b : Moment} {q : Question} {f report : List ℕ} {at : ℕ} {answer : Passed} → HarnessAnswers M b q f → ((L g : List ℕ) → HarnessReasoned M b q L g → ⊥) → RightAt (IsField f) report at answer → PassedAt M b q report at answer
+pub lone-passed : {M : Matter} {b : Moment} {q : Question} {f report : List ℕ} {at : ℕ} {answer : Result ℕ ℕ} → HarnessAnswers M b q f → ((L g : List ℕ) → HarnessReasoned M b q L g → ⊥) → RightAt (IsField f) report at answer → PassedAt harness_rules M b q report at answer
 lone-passed a n (right.to {f = g} e h i) = to {f = g} (rw e a) h i
-lone-passed a n (right.wrong x) = wrong (λ s. x (stands-map (λ g c. harness-answers-one c a) s)) (λ L s. none-stands n s)
+lone-passed a n (right.wrong x e) = wrong (λ s. x (stands-map (λ g c. harness-answers-one c a) s)) (λ L s. none-stands n s) e
 
 -- A reason stands in the list, with so many bytes before its numbers in its field.
 pub record Grounded (job report w : List ℕ) (at front n : ℕ) (f : List ℕ) : Type 0 where
@@ -146,11 +148,11 @@ module _ {job report w : List ℕ} {at front n : ℕ} {f : List ℕ} (G : Ground
   count = length-gather (list_of w) n
 
   -- Where its field is found, its sheets can be looked for, ..
-  pub reasoning-there : {passed : Passed} {v : Bool} → (head_in job).sheeted ≡ v → RightAt (IsField f) report at passed → Reasoning job report w v at front passed
-  reasoning-there e r = record { edition = e; behind = λ end z. go r z }
+  pub behind-there : {end : ℕ} → RightAt (IsField f) report at (Ok end) → Behind job report w (at + front) end
+  behind-there {end} r = go r refl
     where
-      go : {p : Passed} {end : ℕ} → RightAt (IsField f) report at p → p ≡ To end → Behind job report w (at + front) end
-      go {end = end} (right.to {f = g} {p = p} i h x) z =
+      go : {p : Result ℕ ℕ} → RightAt (IsField f) report at p → p ≡ Ok end → Behind job report w (at + front) end
+      go (right.to {f = g} {p = p} i h x) z =
           let o : p ≡ end = cc in
           let h' : Holds report at f = rw i at h in
           let l : length g ≡ length f = ap length i in
@@ -165,24 +167,38 @@ module _ {job report w : List ℕ} {at front n : ℕ} {f : List ℕ} (G : Ground
             rising = G.rising;
             there = G.there;
           }
-      go (right.wrong x) z = let y : ◌≡◌ {A = ℕ} 0 1 = cc in absurd (omega arith)
+      go (right.wrong x i) z = let y : ◌≡◌ {A = ℕ} 0 1 = cc in absurd (omega arith)
 
   -- .. and with them or without the place is told.
-  pub reason-passed : {b : Moment} {q : Question} {w' : List ℕ} {passed answer : Passed} → HarnessReasoned (matter_in job) b q (list_in n w) f → RightAt (IsField f) report at passed → Turned job report w w' (at + front) passed answer → PassedAt (matter_in job) b q report at answer
-  reason-passed {b} {q} {w'} {passed} {answer} r (right.to {f = g} {p = p} i h x) t =
-      let h' : Holds report at f = rw i at h in
-      let l : length g ≡ length f = ap length i in
-      go (t.some p refl (list_in n w) (omega (arith, G.size, count)) (G.body h')) h' (omega arith)
+  pub reason-passed : {b : Moment} {q : Question} {w' : List ℕ} {end : ℕ} {answer : Result ℕ ℕ} → HarnessReasoned (matter_in job) b q (list_in n w) f → RightAt (IsField f) report at (Ok end) → Sheeted job report w w' (at + front) end answer → PassedAt harness_rules (matter_in job) b q report at answer
+  reason-passed {b} {q} {w'} {end} {answer} r s t = found-at s refl
     where
-      go : {answer : Passed} → Filing job report (list_in n w) p answer → Holds report at f → p ≡ at + length f → PassedAt (matter_in job) b q report at answer
+      go : {answer : Result ℕ ℕ} → Filing job report (list_in n w) end answer → Holds report at f → end ≡ at + length f → PassedAt harness_rules (matter_in job) b q report at answer
       go (stood {g = k} {p = e} y z i) h x = to {p = e} (reasoned r y) (holds-both report at f k h (subst (λ (m : ℕ). Holds report m k) x z)) (omega (arith, length-append f k))
       go (missing {p = e} y i) h x = astray {p = e} r h (i ∙ x) (subst (λ (m : ℕ). Stands (Filed (matter_in job) (list_in n w)) (drop m report) → ⊥) (sym i) y)
-  reason-passed {b} {q} {w'} {passed} {answer} r (right.wrong x) t = subst (λ (a : Passed). PassedAt (matter_in job) b q report at a) (sym (t.none refl)) (wrong (λ s. x (front_of s)) (λ L s. x (stands-map (λ g k. (harness-reasoned-one k r).1) s)))
+
+      found-at : {a : Result ℕ ℕ} → RightAt (IsField f) report at a → a ≡ Ok end → PassedAt harness_rules (matter_in job) b q report at answer
+      found-at (right.to {f = g} {p = p} i h x) z =
+          let o : p ≡ end = cc in
+          let h' : Holds report at f = rw i at h in
+          let l : length g ≡ length f = ap length i in
+          go (t.right (list_in n w) (omega (arith, G.size, count)) (G.body h')) h' (omega arith)
+      found-at (right.wrong x i) z = let y : ◌≡◌ {A = ℕ} 0 1 = cc in absurd (omega arith)
+
+  -- Where it is not, no right field stands there.
+  pub reason-missing : {b : Moment} {q : Question} {v : ℕ} → HarnessReasoned (matter_in job) b q (list_in n w) f → RightAt (IsField f) report at (Err v) → PassedAt harness_rules (matter_in job) b q report at (Err v)
+  reason-missing {b} {q} {v} r s = go s refl
     where
       front_of : {bs : List ℕ} → Stands (HarnessAnswers (matter_in job) b q) bs → Stands (IsField f) bs
       front_of (stands {f = g} a rest) =
           let o = reason-only r a in
           stands-in f (o.0 ++ rest) refl (sym (append_assoc f o.0 rest) ∙ ap (λ (l : List ℕ). l ++ rest) (sym o.2))
+
+      go : {a : Result ℕ ℕ} → RightAt (IsField f) report at a → a ≡ Err v → PassedAt harness_rules (matter_in job) b q report at (Err v)
+      go (right.to x h i) z = let y : ◌≡◌ {A = ℕ} 0 1 = cc in absurd (omega arith)
+      go (right.wrong {p = v'} x i) z =
+          let o : v' ≡ v = cc in
+          wrong (λ s. x (front_of s)) (λ L s. x (stands-map (λ g k. (harness-reasoned-one k r).1) s)) (sym o ∙ i)
 
 -- A reason that stands in the list has as many numbers as are told, and they are few.
 pub list-few : {N : ℕ} {rs : List Rec} {R s t : ℕ} (n : ℕ) (w : List ℕ) → N ≤ most_tags → Harness N rs R s t (list_in n w) → n ≤ most_waiting
@@ -209,11 +225,14 @@ module _ {job w : List ℕ} {q : moment.Question} (E : Explaining job w q) where
       body = field-body report at 132 (numbers (list_in n w₁));
     }
 
-    pub because-explained : (n : ℕ) (w₁ : List ℕ) → Large w₁ → (r : Harness q.size (records_in q.len w) q.before q.s.0 q.t.0 (list_in n w₁)) → {w₂ : List ℕ} {passed answer : Passed} → Within scratch w w₁
-        → RightAt (IsField (field 132 (numbers (list_in n w₁)))) report at passed → Turned job report w₁ w₂ (at + 3) passed answer → Explained job report w w₂ at q answer
-    because-explained n w₁ g r k x t = record { kept = within-trans k t.kept; right = λ b e. reason-passed (explain-grounded n w₁ g r) (harness-because-known (known b e) r) x t }
+    module _ (n : ℕ) (w₁ : List ℕ) (g : Large w₁) (r : Harness q.size (records_in q.len w) q.before q.s.0 q.t.0 (list_in n w₁)) where
+      pub because-explained : {w₂ : List ℕ} {end : ℕ} {answer : Result ℕ ℕ} → Within scratch w w₁ → RightAt (IsField (field 132 (numbers (list_in n w₁)))) report at (Ok end) → Sheeted job report w₁ w₂ (at + 3) end answer → Explained harness_rules job report w w₂ at q answer
+      because-explained k x t = record { kept = within-trans k t.kept; right = λ b e. reason-passed (explain-grounded n w₁ g r) (harness-because-known (known b e) r) x t }
 
-    pub apart-explained : {w₁ : List ℕ} {answer : Passed} → (Follows (UpTo (records_in q.len w) q.before) q.s.0 q.t.0 → ⊥) → Within scratch w w₁ → RightAt (IsField (field 133 [])) report at answer → Explained job report w w₁ at q answer
+      pub missing-explained : {v : ℕ} → Within scratch w w₁ → RightAt (IsField (field 132 (numbers (list_in n w₁)))) report at (Err v) → Explained harness_rules job report w w₁ at q (Err v)
+      missing-explained k x = record { kept = k; right = λ b e. reason-missing (explain-grounded n w₁ g r) (harness-because-known (known b e) r) x }
+
+    pub apart-explained : {w₁ : List ℕ} {answer : Result ℕ ℕ} → (Follows (UpTo (records_in q.len w) q.before) q.s.0 q.t.0 → ⊥) → Within scratch w w₁ → RightAt (IsField (field 133 [])) report at answer → Explained harness_rules job report w w₁ at q answer
     apart-explained n k x = record { kept = k; right = λ b e. lone-passed (harness-apart-known (known b e) n) (λ L g r. none_apart (rw ((known b e).records, e) n) r) x }
 
 -- .. and of a broken pair.
@@ -230,13 +249,16 @@ module _ {job w report : List ℕ} {H : Head} {len joins before s t at : ℕ} (B
     body = λ h. pair-list report at k (list_in n w₁) (field-body report at 134 (numbers (k ∷ list_in n w₁)) h);
   }
 
-  pub breach-found : (n : ℕ) (w₁ : List ℕ) → Large w₁ → (r : Harness H.size (records_in len w) before s t (list_in n w₁)) → {w₂ : List ℕ} {passed answer : Passed} → Within scratch w w₁
-      → RightAt (IsField (field 134 (numbers (k ∷ list_in n w₁)))) report at passed → Turned job report w₁ w₂ (at + 5) passed answer → Breached job report w w₂ at H.size len before k s t answer
-  breach-found n w₁ g r v x u = record { kept = within-trans v u.kept; right = λ b q h. reason-passed (breach-grounded n w₁ g r) (h (list_in n w₁) r) x u }
+  module _ (n : ℕ) (w₁ : List ℕ) (g : Large w₁) (r : Harness H.size (records_in len w) before s t (list_in n w₁)) where
+    pub breach-found : {w₂ : List ℕ} {end : ℕ} {answer : Result ℕ ℕ} → Within scratch w w₁ → RightAt (IsField (field 134 (numbers (k ∷ list_in n w₁)))) report at (Ok end) → Sheeted job report w₁ w₂ (at + 5) end answer → Breached job report w w₂ at H.size len before k s t answer
+    breach-found v x u = record { kept = within-trans v u.kept; right = λ b q h. reason-passed (breach-grounded n w₁ g r) (h (list_in n w₁) r) x u }
+
+    pub breach-missing : {v : ℕ} → Within scratch w w₁ → RightAt (IsField (field 134 (numbers (k ∷ list_in n w₁)))) report at (Err v) → Breached job report w w₁ at H.size len before k s t (Err v)
+    breach-missing v x = record { kept = v; right = λ b q h. reason-missing (breach-grounded n w₁ g r) (h (list_in n w₁) r) x }
 
 -- What is right by the table is right for the job.
 module _ {job w : List ℕ} {H : Head} {len joins before differs : ℕ} (B : Breaking job w H len joins before differs) where
-  pub checked-none : {report : List ℕ} {at : ℕ} {answer : Passed} → Unbroken (records_of (items_in job)) before (pairs_of (items_in job)) differs → RightAt (IsField (field 135 [])) report at answer → Checked job report w w before differs at answer
+  pub checked-none : {report : List ℕ} {at : ℕ} {answer : Result ℕ ℕ} → Unbroken (records_of (items_in job)) before (pairs_of (items_in job)) differs → RightAt (IsField (field 135 [])) report at answer → Checked harness_rules job report w w before differs at answer
   checked-none u h = record { kept = within-refl w; right = λ b x y. lone-passed (intact (rw (x, y) u)) (λ L g r. none-intact (rw (x, y) u) r) h }
 
   module _ {k : ℕ} {p : Differing} (e : Earliest (records_of (items_in job)) before (pairs_of (items_in job)) differs k) (f : Found job k p) where
@@ -252,5 +274,5 @@ module _ {job w : List ℕ} {H : Head} {len joins before differs : ℕ} (B : Bre
       equal = rw B.records (rw f.is at e.broken);
     }
 
-    pub checked-some : {w' report : List ℕ} {at : ℕ} {answer : Passed} → Breached job report w w' at H.size len before k p.s.0 p.t.0 answer → Checked job report w w' before differs at answer
+    pub checked-some : {w' report : List ℕ} {at : ℕ} {answer : Result ℕ ℕ} → Breached job report w w' at H.size len before k p.s.0 p.t.0 answer → Checked harness_rules job report w w' before differs at answer
     checked-some h = record { kept = h.kept; right = λ b x y. h.right b broken (λ L r. breached {k = k} {L = L} (rw (x, y) e) (rw (x, B.head, f.is) (rw B.records at r))) }

@@ -1,2 +1,2 @@
-pub mod Tags
+pub mod Tests
 pub mod Counts

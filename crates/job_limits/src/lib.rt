@@ -4,15 +4,15 @@
 #![tactic(auto)]
 
 ghost use Rattle.std.specs.Prelude.{◌≡◌, ◌+◌, length, ◌&&◌, ltb, leb};
-ghost use Rattle.job_field.specs.Reading.{or_else, counted, sized, note_is_filed, filed, field_tags, tagged, checked};
+ghost use Rattle.job_field.specs.Reading.{Field as FieldSaid, or_else, counted, sized, note_is_filed, filed, field_tags, tagged, checked};
 ghost use Rattle.meaning.specs.Limits.{most_tags};
-ghost use Rattle.job_field.specs.Answer.{number_of, note_said, question_said, said};
-ghost use Rattle.job_field.specs.Items.{stands_for, pairs_noted, noted, posed, after, tags_of_note, tags_of_question};
+ghost use Rattle.job_field.specs.Answer.{number_of, note_said, question_said, head_said, field_said, said};
+ghost use Rattle.job_field.specs.Items.{stands_for, pairs_noted, noted, posed, after};
 ghost use Rattle.job_field.specs.Standing.{Few};
-ghost use Rattle.job_limits.specs.Counts.{head_of, moment_of};
-ghost use Rattle.job_limits.specs.Tags.{tags_in};
+ghost use Rattle.job_limits.specs.Counts.{moment_of};
+ghost use Rattle.job_limits.specs.Tests.{passed};
 
-use job_field::{Fault, Field, Line, Query, pairs_in, stands_for, wide};
+use job_field::{Fault, Field, Head, Line, Query, pairs_in, stands_for};
 use meaning::Tag;
 
 // At most so many records, pairs that must differ, questions and tags.
@@ -26,16 +26,8 @@ const MOST_TAGS: u16 = meaning::MOST_TAGS as u16;
 
 const MOST_SHEET: u16 = meaning::MOST_SHEET as u16;
 
-// What the first field said, N and U, both 0 before it, and whether the job is of edition 2, whose records have sheets.
-#[derive(Clone, Copy)]
-pub struct Top {
-    pub size: u16,
-    pub units: u16,
-    pub sheeted: bool,
-}
-
 // What stands before a field: so many records, pairs that must differ, and questions.
-#[derive(Clone, Copy)]
+#[derive(Clone, Copy, Debug, Default, PartialEq, Eq)]
 pub struct Counts {
     pub records: u16,
     pub differs: u16,
@@ -59,9 +51,8 @@ pub fn past_question(c: Counts, q: Query) -> Counts
     ensures { moment_of result ≡ after (posed (question_said q)) (moment_of c) }
 {
     Counts {
-        records: c.records,
-        differs: c.differs,
         questions: c.questions + 1,
+        ..c
     }
 }
 
@@ -69,23 +60,18 @@ pub fn past_question(c: Counts, q: Query) -> Counts
 fn note_fits(c: Counts, l: Line) -> bool
     ensures { result ≡ (leb (c.records + length (stands_for (note_said l))) 4000 && leb (c.differs + length (pairs_noted (note_said l))) 500) }
 {
-    if wide(c.records) + wide(stands_for(l)) <= MOST_RECORDS {
-        wide(c.differs) + wide(pairs_in(l)) <= MOST_DIFFERS
-    } else {
-        false
-    }
+    usize::from(c.records) + usize::from(stands_for(l)) <= MOST_RECORDS
+        && usize::from(c.differs) + usize::from(pairs_in(l)) <= MOST_DIFFERS
 }
 
 // The count limit: 4,000 records, 500 pairs that must differ, 1,000 questions.
 fn is_counted(c: Counts, field: Field) -> bool
-    ensures { result ≡ counted (moment_of c) (said field) }
+    ensures { result ≡ counted (moment_of c) (field_said field) }
 {
     match field {
-        Field::Bad(_) => true,
-        Field::Header(_, _, _) => true,
         Field::Noted(l) => note_fits(c, l),
         Field::Posed(_) => c.questions < MOST_QUESTIONS,
-        Field::End => true,
+        Field::Header(_) | Field::End => true,
     }
 }
 
@@ -93,72 +79,15 @@ fn is_counted(c: Counts, field: Field) -> bool
 fn is_size(n: u16, u: u16) -> bool
     ensures { result ≡ (ltb 0 n && (leb n most_tags && leb u n)) }
 {
-    if 0 < n {
-        if n <= MOST_TAGS { u <= n } else { false }
-    } else {
-        false
-    }
+    0 < n && n <= MOST_TAGS && u <= n
 }
 
-// Whether a tag is one of a job with so many.
-fn is_below(tag: Tag, size: u16) -> bool
-    ensures { result ≡ ltb tag.0 size }
-{
-    tag.is_of(size)
-}
-
-// The tags of a field, in the order of the job's table.
-#[derive(Clone, Copy)]
-pub enum Tags {
-    None,
-    Two(Tag, Tag),
-    Three(Tag, Tag, Tag),
-}
-
-fn note_tags(l: Line) -> Tags
-    ensures { tags_in result ≡ tags_of_note (note_said l) }
-{
-    match l {
-        Line::Equation(a, b, _) => Tags::Two(a, b),
-        Line::Application(a, b, c, _) => Tags::Three(a, b, c),
-        Line::Differ(a, b) => Tags::Two(a, b),
-    }
-}
-
-fn question_tags(q: Query) -> Tags
-    ensures { tags_in result ≡ tags_of_question (question_said q) }
-{
-    match q {
-        Query::Ask(s, t) => Tags::Two(s, t),
-        Query::Explain(s, t) => Tags::Two(s, t),
-        Query::Broken => Tags::None,
-        Query::Why(s, t) => Tags::Two(s, t),
-    }
-}
-
-// The tags of a field: what is no note and no question has none.
-fn tags_of(field: Field) -> Tags
-    ensures { tags_in result ≡ field_tags (said field) }
-{
-    match field {
-        Field::Bad(_) => Tags::None,
-        Field::Header(_, _, _) => Tags::None,
-        Field::Noted(l) => note_tags(l),
-        Field::Posed(q) => question_tags(q),
-        Field::End => Tags::None,
-    }
-}
-
-// N from 1 to 1,000, with U up to it.
 fn is_sized(field: Field) -> bool
-    ensures { result ≡ sized (said field) }
+    ensures { result ≡ sized (field_said field) }
 {
     match field {
-        Field::Bad(_) => true,
-        Field::Header(n, u, _) => is_size(n, u),
-        Field::Noted(_) => true,
-        Field::Posed(_) => true,
-        Field::End => true,
+        Field::Header(head) => is_size(head.size, head.units),
+        _ => true,
     }
 }
 
@@ -167,67 +96,61 @@ fn note_filed(l: Line) -> bool
     ensures { result ≡ note_is_filed (note_said l) }
 {
     match l {
-        Line::Equation(_, _, h) => h <= MOST_SHEET,
-        Line::Application(_, _, _, h) => h <= MOST_SHEET,
+        Line::Equation(_, _, h) | Line::Application(_, _, _, h) => h <= MOST_SHEET,
         Line::Differ(_, _) => true,
     }
 }
 
 fn is_filed(field: Field) -> bool
-    ensures { result ≡ filed (said field) }
+    ensures { result ≡ filed (field_said field) }
 {
     match field {
-        Field::Bad(_) => true,
-        Field::Header(_, _, _) => true,
         Field::Noted(l) => note_filed(l),
-        Field::Posed(_) => true,
-        Field::End => true,
+        _ => true,
     }
 }
 
-// The field where a test holds, and else a fault.
-fn or_else(holds: bool, fault: Fault, field: Field) -> Field
-    ensures { said result ≡ or_else holds (number_of fault) (said field) }
+// A fault where a test does not hold.
+fn must(holds: bool, fault: Fault) -> Result<(), Fault>
+    ensures { (f : FieldSaid) → passed result f ≡ or_else holds (number_of fault) f }
 {
-    if holds { field } else { Field::Bad(fault) }
+    if holds { Ok(()) } else { Err(fault) }
 }
 
-// A field with its first two tags tested one after the other, and with its third: the first that is N or more is told.
-fn two_tested(size: u16, a: Tag, b: Tag, field: Field) -> Field
-    ensures { said result ≡ or_else (ltb a.0 size) 11 (or_else (ltb b.0 size) 12 (said field)) }
+// The first two tags of a field must be among those of a job with so many: the first that is not is told.
+fn two_tested(size: u16, a: Tag, b: Tag) -> Result<(), Fault>
+    ensures { (f : FieldSaid) → passed result f ≡ or_else (ltb a.0 size) 11 (or_else (ltb b.0 size) 12 f) }
 {
-    let first = is_below(a, size);
-    let second = is_below(b, size);
-    or_else(
-        first,
-        Fault::FirstTag,
-        or_else(second, Fault::SecondTag, field),
-    )
+    must(a.is_of(size), Fault::FirstTag)?;
+    must(b.is_of(size), Fault::SecondTag)
 }
 
-fn third_tested(size: u16, c: Tag, field: Field) -> Field
-    ensures { said result ≡ or_else (ltb c.0 size) 13 (said field) }
+// The tags of a field so tested, in the order of the job's table.
+fn tags_tested(size: u16, field: Field) -> Result<(), Fault>
+    ensures { (f : FieldSaid) → passed result f ≡ tagged size 11 (field_tags (field_said field)) f }
 {
-    or_else(is_below(c, size), Fault::ThirdTag, field)
-}
-
-fn tags_tested(size: u16, tags: Tags, field: Field) -> Field
-    ensures { said result ≡ tagged size 11 (tags_in tags) (said field) }
-{
-    match tags {
-        Tags::None => field,
-        Tags::Two(a, b) => two_tested(size, a, b, field),
-        Tags::Three(a, b, c) => two_tested(size, a, b, third_tested(size, c, field)),
+    match field {
+        Field::Noted(Line::Equation(a, b, _) | Line::Differ(a, b)) => two_tested(size, a, b),
+        Field::Noted(Line::Application(a, b, c, _)) => {
+            two_tested(size, a, b)?;
+            must(c.is_of(size), Fault::ThirdTag)
+        }
+        Field::Posed(Query::Ask(s, t) | Query::Explain(s, t) | Query::Why(s, t)) => two_tested(
+            size, s, t,
+        ),
+        Field::Posed(Query::Broken) | Field::Header(_) | Field::End => Ok(()),
     }
 }
 
-// A field with its count limit, N and U, its tags and its sheet tested, in this order.
-pub fn allowed(top: Top, c: Counts, field: Field) -> Field
-    ensures { said result ≡ checked (head_of top) (moment_of c) (said field) }
+// A field with its count limit, N and U, its tags and its sheet tested, in this order; one that was refused before stays so.
+#[tactic(auto, unfolding(job_field::specs::Reading::checked))]
+pub fn allowed(top: Head, c: Counts, field: Result<Field, Fault>) -> Result<Field, Fault>
+    ensures { said result ≡ checked (head_said top) (moment_of c) (said field) }
 {
-    let kept = or_else(is_filed(field), Fault::Sheet, field);
-    let tested = tags_tested(top.size, tags_of(field), kept);
-    let few = is_counted(c, field);
-    let low = is_sized(field);
-    or_else(few, Fault::TooMany, or_else(low, Fault::OutOfRange, tested))
+    let field = field?;
+    must(is_counted(c, field), Fault::TooMany)?;
+    must(is_sized(field), Fault::OutOfRange)?;
+    tags_tested(top.size, field)?;
+    must(is_filed(field), Fault::Sheet)?;
+    Ok(field)
 }

@@ -1,10 +1,10 @@
 -- What the answer of the code says in document 01's words: the number and the place of a refusal, and what is known of a job that is accepted.
 -- Assumes nothing.
-use Rattle.std.specs.Prelude.{ℕ, length}
+use Rattle.std.specs.Prelude.{ℕ, length, Result, Ok, Err}
 use Rattle.job_field.specs.Items.{Head, start, Reading, refused, accepted, records_of, questions_of, needed_room}
-use Rattle.job_field.specs.Answer.{number_of}
-use Rattle.job_read.specs.declared.Answer.{Answer}
-use Rattle.job_read.specs.declared.Answer.TheVariants.{Refused, Accepted}
+use Rattle.job_field.specs.Answer.{number_of, head_said}
+use Rattle.job_read.specs.declared.Accepted.{Accepted}
+use Rattle.job_read.specs.declared.Refusal.{Refusal}
 
 -- What a whole reading comes to: a refusal's number and place; or what the first field says, the number of records, the number of questions and the needed
 -- room.
@@ -17,6 +17,6 @@ summary (refused n p) = refusal n p
 summary (accepted H is) = acceptance H (length (records_of is)) (questions_of is) (needed_room H start is)
 
 -- The summary of what the code answers, by document 01's numbers.
-abbrev pub told : Answer → Summary
-told (Refused f p) = refusal (number_of f) p
-told (Accepted N U E R Q room) = acceptance (record { size = N; units = U; sheeted = E }) R Q room
+abbrev pub told : Result Accepted Refusal → Summary
+told (Ok a) = acceptance (head_said a.head) a.records a.questions a.room
+told (Err e) = refusal (number_of e.fault) e.place

@@ -5,147 +5,97 @@
 // jobs in disorder are the comparison's (compare/framed). Rests on job_field, job_read and console; no contract says what is written, the stored output does.
 #![tactic(auto)]
 
-ghost use Rattle.std.specs.Prelude.{◌≡◌};
+ghost use Rattle.std.specs.Prelude.{◌<◌, ◌≤◌, length};
 
-use console::{Got, read_input, write_output};
+use console::{read_input, write_output};
+use job_read::{Accepted, Refusal, read_job};
+use std::fmt;
+use std::fmt::Display;
 
-// What document 01 gives an answer: 0 at 0 where the job is accepted.
-#[derive(Clone, Copy)]
+// The number and the place that document 01 gives an answer: 0 at 0 where the job is accepted.
+#[derive(Clone, Copy, PartialEq, Eq)]
 struct Verdict {
     number: u64,
     place: u64,
 }
 
-fn byte(x: u8) -> u64
-    ensures { result ≡ x }
-{
-    x as u64
-}
-
-fn size(x: usize) -> u64
-    ensures { result ≡ x }
-{
-    x as u64
-}
-
-fn word(x: u16) -> u64
-    ensures { result ≡ x }
-{
-    x as u64
-}
-
-fn answered(bytes: &[u8]) -> Verdict {
-    match job_read::read_job(bytes) {
-        job_read::Answer::Refused { fault, place } => Verdict {
-            number: byte(job_field::number_of(fault)),
-            place: size(place),
-        },
-        job_read::Answer::Accepted {
-            size: _,
-            units: _,
-            sheeted: _,
-            records: _,
-            questions: _,
-            room: _,
-        } => Verdict {
-            number: 0,
-            place: 0,
-        },
+impl Display for Verdict {
+    fn fmt<W: fmt::Write>(&self, f: &mut fmt::Formatter<W>) -> fmt::Result {
+        write!(f, "{} {}", self.number, self.place)
     }
 }
 
-// A decimal number. Like the other writes, one that fails leaves its bytes out.
-fn say_number(rt: &HostRuntime, n: u64) {
-    let _ = print!(rt; "{n}");
-}
-
-fn pair(rt: &HostRuntime, a: u64, b: u64) {
-    write_output(rt, b" ");
-    say_number(rt, a);
-    write_output(rt, b" ");
-    say_number(rt, b);
-}
-
-fn line(rt: &HostRuntime, name: &[u8], v: Verdict, number: u64, place: u64) {
-    write_output(rt, name);
-    pair(rt, v.number, v.place);
-    if v.number != number || v.place != place {
-        write_output(rt, b" expected");
-        pair(rt, number, place);
+impl From<Result<Accepted, Refusal>> for Verdict {
+    fn from(answer: Result<Accepted, Refusal>) -> Verdict {
+        match answer {
+            Err(Refusal { fault, place }) => Verdict {
+                number: u64::from(u8::from(fault)),
+                place: place as u64,
+            },
+            Ok(_) => Verdict {
+                number: 0,
+                place: 0,
+            },
+        }
     }
-    write_output(rt, b"\n");
+}
+
+// Bytes of a line. Like the other writes, one that fails leaves its bytes out.
+fn say(rt: &HostRuntime, bytes: &[u8]) {
+    let _ = write_output(rt, bytes);
+}
+
+fn case(rt: &HostRuntime, name: &[u8], bytes: &[u8], expected: Verdict) {
+    let answer = read_job(bytes);
+    let verdict = Verdict::from(answer);
+    say(rt, name);
+    let _ = if verdict == expected {
+        println!(rt; " {verdict}")
+    } else {
+        println!(rt; " {verdict} expected {expected}")
+    };
+    if let Ok(job) = answer {
+        known(rt, name, job);
+    }
 }
 
 // What an accepted job is known by: N, the records, the questions, the needed room.
-fn known(rt: &HostRuntime, name: &[u8], bytes: &[u8]) {
-    write_output(rt, name);
-    match job_read::read_job(bytes) {
-        job_read::Answer::Refused { fault, place } => {
-            pair(rt, byte(job_field::number_of(fault)), size(place));
-        }
-        job_read::Answer::Accepted {
-            size: tags,
-            units: _,
-            sheeted: _,
-            records,
-            questions,
-            room,
-        } => {
-            pair(rt, word(tags), word(records));
-            pair(rt, word(questions), size(room));
-        }
-    }
-    write_output(rt, b"\n");
-}
-
-fn case(rt: &HostRuntime, name: &[u8], bytes: &[u8], number: u64, place: u64) {
-    let v = answered(bytes);
-    line(rt, name, v, number, place);
-    if v.number == 0 {
-        known(rt, name, bytes);
-    }
+fn known(rt: &HostRuntime, name: &[u8], job: Accepted) {
+    say(rt, name);
+    let _ = println!(rt;
+        " {} {} {} {}",
+        job.head.size, job.records, job.questions, job.room
+    );
 }
 
 // Puts a field at a place where it fits, and answers the place behind it.
 fn put(room: &mut [u8], at: usize, field: &[u8]) -> usize {
-    if room.len() < field.len() {
+    if room.len() < field.len() || room.len() - field.len() < at {
         return at;
     }
-    if room.len() - field.len() < at {
-        return at;
-    }
-    let mut i: usize = 0;
-    while i < field.len() {
-        room[at + i] = field[i];
-        i += 1;
-    }
-    at + field.len()
+    let end = at + field.len();
+    room[at..end].copy_from_slice(field);
+    end
 }
 
-fn front(rt: &HostRuntime, name: &[u8], room: &[u8], n: usize, number: u64, place: u64) {
-    if n <= room.len() {
-        case(rt, name, &room[..n], number, place);
-    }
-}
-
-// The place behind the first such byte of the text, from a place on.
-fn behind(text: &[u8], from: usize, mark: u8) -> usize {
-    let mut i = from;
-    while i < text.len() {
-        if text[i] == mark {
-            return i + 1;
-        }
-        i += 1;
-    }
-    i
+// The text to the first such byte, with it, and the text behind that.
+fn parted(text: &[u8], mark: u8) -> (&[u8], &[u8])
+    ensures within { length result.1.now ≤ length text.now }
+    ensures shorter { 0 < length text.now → length result.1.now < length text.now }
+{
+    let end = match text.iter().position(|b| *b == mark) {
+        Some(i) => i + 1,
+        None => text.len(),
+    };
+    text.split_at(end)
 }
 
 // A digit, decimal or hexadecimal.
 fn digit(x: u8) -> u8 {
-    if x < 65 {
-        if x < 48 { 0 } else { x - 48 }
-    } else {
-        x - 55
+    match x {
+        65.. => x - 55,
+        48.. => x - 48,
+        _ => 0,
     }
 }
 
@@ -153,104 +103,70 @@ fn byte_of(high: u8, low: u8) -> u8 {
     digit(high) % 16 * 16 + digit(low) % 16
 }
 
-// A number of the text, and the place behind the byte that ends it.
-#[derive(Clone, Copy)]
-struct Figure {
-    value: u64,
-    next: usize,
-}
-
-fn parsed(text: &[u8], from: usize, mark: u8) -> Figure {
+// The number before a byte that ends it.
+fn number_of_digits(digits: &[u8], mark: u8) -> u64 {
     let mut value: u64 = 0;
-    let mut i = from;
-    while i < text.len() {
-        let x = text[i];
-        i += 1;
-        if x == mark {
-            return Figure { value, next: i };
+    for x in digits {
+        if *x != mark {
+            value = value % 1000000 * 10 + u64::from(digit(*x));
         }
-        value = value % 1000000 * 10 + byte(digit(x));
     }
-    Figure { value, next: i }
+    value
 }
 
-// Where the bytes of a line end in the room, and the place behind the line.
-#[derive(Clone, Copy)]
-struct Laid {
-    end: usize,
-    next: usize,
-}
-
-// The bytes of a line come to a place of the room: each is a space and two hexadecimal digits.
-fn lay(text: &[u8], from: usize, room: &mut [u8], start: usize) -> Laid {
-    let mut i = from;
+// The bytes of a line come to a place of the room: each is a space and two hexadecimal digits. Where they end in the room, and the text behind the line.
+fn lay<'a>(text: &'a [u8], room: &mut [u8], start: usize) -> (usize, &'a [u8])
+    ensures { length result.1.now ≤ length text.now }
+{
+    let mut rest = text;
     let mut end = start;
-    while i < text.len() {
-        if text[i] == b'\n' {
-            return Laid { end, next: i + 1 };
+    loop {
+        match rest {
+            [b'\n', behind @ ..] => return (end, behind),
+            [_, high, low, behind @ ..] if end < room.len() => {
+                room[end] = byte_of(*high, *low);
+                end += 1;
+                rest = behind;
+            }
+            _ => return (end, &[]),
         }
-        if text.len() - i < 3 {
-            return Laid {
-                end,
-                next: text.len(),
-            };
-        }
-        if room.len() <= end {
-            return Laid {
-                end,
-                next: text.len(),
-            };
-        }
-        room[end] = byte_of(text[i + 1], text[i + 2]);
-        end += 1;
-        i += 3;
     }
-    Laid { end, next: i }
 }
 
-// A line of the text: a name, the number and the place that are expected, and the bytes that stand in the room from a place on, to the job's end.
-fn row(rt: &HostRuntime, text: &[u8], from: usize, room: &mut [u8], start: usize) -> usize {
-    let named = behind(text, from, b' ');
-    let number = parsed(text, named, b' ');
-    let place = parsed(text, number.next, b':');
-    let laid = lay(text, place.next, room, start);
-    if named <= text.len() {
-        if from < named {
-            front(
-                rt,
-                &text[from..named - 1],
-                room,
-                laid.end,
-                number.value,
-                place.value,
-            );
-        }
+// A line of the text: a name, the number and the place that are expected, and the bytes that stand in the room from a place on, to the job's end. The text behind it.
+fn row<'a>(rt: &HostRuntime, text: &'a [u8], room: &mut [u8], start: usize) -> &'a [u8]
+    ensures { 0 < length text.now → length result.now < length text.now }
+{
+    let (name, behind) = parted(text, b' ');
+    let (number, behind) = parted(behind, b' ');
+    let (place, behind) = parted(behind, b':');
+    let (end, behind) = lay(behind, room, start);
+    let expected = Verdict {
+        number: number_of_digits(number, b' '),
+        place: number_of_digits(place, b':'),
+    };
+    if let (Some((_, name)), Some(job)) = (name.split_last(), room.get(..end)) {
+        case(rt, name, job, expected);
     }
-    laid.next
+    behind
 }
 
-// The lines of the text from a place on, to the next empty one; the place behind that.
-fn rows(rt: &HostRuntime, text: &[u8], from: usize, room: &mut [u8], start: usize) -> usize {
-    let mut at = from;
-    while at < text.len() {
-        if text[at] == b'\n' {
-            return at + 1;
+// The lines of the text to the next empty one; the text behind that.
+fn rows<'a>(rt: &HostRuntime, text: &'a [u8], room: &mut [u8], start: usize) -> &'a [u8] {
+    let mut rest = text;
+    while let [first, behind @ ..] = rest {
+        if *first == b'\n' {
+            return behind;
         }
-        let next = row(rt, text, at, room, start);
-        if next <= at {
-            return at;
-        }
-        at = next;
+        rest = row(rt, rest, room, start);
     }
-    at
+    rest
 }
 
 fn repeat(room: &mut [u8], from: usize, field: &[u8], times: usize) -> usize {
     let mut at = from;
-    let mut k: usize = 0;
-    while k < times {
+    for _ in 0..times {
         at = put(room, at, field);
-        k += 1;
     }
     at
 }
@@ -297,53 +213,23 @@ fn longest(room: &mut [u8]) -> usize {
     repeat(room, half, b"\x04\x00\x04\x00\x00\x03\xE7", 1000)
 }
 
-fn behind_records(rt: &HostRuntime, text: &[u8], from: usize, room: &mut [u8]) -> usize {
-    let full = records(room);
-    rows(rt, text, from, room, full)
-}
-
-fn behind_questions(rt: &HostRuntime, text: &[u8], from: usize, room: &mut [u8]) -> usize {
-    let full = questions(room);
-    rows(rt, text, from, room, full)
-}
-
-fn behind_differs(rt: &HostRuntime, text: &[u8], from: usize, room: &mut [u8]) -> usize {
-    let full = differs(room);
-    rows(rt, text, from, room, full)
-}
-
-fn behind_all(rt: &HostRuntime, text: &[u8], from: usize, room: &mut [u8]) -> usize {
-    let full = longest(room);
-    rows(rt, text, from, room, full)
-}
-
 fn all(rt: &HostRuntime, text: &[u8], room: &mut [u8]) {
-    let second = rows(rt, text, 0, room, 0);
-    let third = behind_records(rt, text, second, room);
-    let fourth = behind_questions(rt, text, third, room);
-    let last = behind_differs(rt, text, fourth, room);
-    behind_all(rt, text, last, room);
-}
-
-// What standard input holds comes to the front of the text.
-fn begun(rt: &HostRuntime, text: &mut [u8], room: &mut [u8]) {
-    let got = read_input(rt, text);
-    match got {
-        Got::Bytes(n) => {
-            if n <= text.len() {
-                all(rt, &text[..n], room);
-            }
-        }
-        Got::Broken => {
-            write_output(rt, b"no vectors\n");
-        }
-    }
+    let behind = rows(rt, text, room, 0);
+    let full = records(room);
+    let behind = rows(rt, behind, room, full);
+    let full = questions(room);
+    let behind = rows(rt, behind, room, full);
+    let full = differs(room);
+    let behind = rows(rt, behind, room, full);
+    let full = longest(room);
+    rows(rt, behind, room, full);
 }
 
 fn main(rt: HostRuntime) {
-    let mut text_space = [0u8; 12288];
-    let text: &mut [u8] = &mut text_space;
-    let mut room_space = [0u8; 50000];
-    let room: &mut [u8] = &mut room_space;
-    begun(&rt, text, room);
+    let mut text = [0u8; 12288];
+    let mut room = [0u8; 50000];
+    match read_input(&rt, &mut text) {
+        Ok(n) => all(&rt, &text[..n], &mut room),
+        Err(_) => say(&rt, b"no vectors\n"),
+    }
 }

@@ -28,14 +28,14 @@ use Rattle.report_read.proofs.Read.{holds-one, holds-front, holds-behind, holds-
 use Rattle.report_read.proofs.Right as front
 use Rattle.moment.specs.declared.Question.{Question}
 use Rattle.moment.specs.Posed.{Deciding}
-use Rattle.answer_ask.specs.declared.Passed.{Passed}
-use Rattle.answer_ask.specs.declared.Passed.TheVariants.{To, Wrong}
+use Rattle.std.specs.Prelude.{Result, Ok, Err}
 use Rattle.answer_ask.specs.Right.{RightAt, to, wrong}
 use Rattle.answer_ask.proofs.Right.{found}
 use Rattle.judge_sheets.specs.Passing as pass
 use Rattle.judge_sheets.specs.Passing.{PassedAt}
-use Rattle.judge_sheets.specs.Behind.{Behind, Reasoning, Turned}
+use Rattle.judge_sheets.specs.Behind.{Behind, Sheeted}
 use Rattle.judge_sheets.proofs.Passing.{reasonless, reason-passed}
+use Rattle.profile.specs.Plain.{plain_rules, plain_laws}
 use Rattle.judge_explain.specs.Right.{Reasoned, Known}
 use Rattle.judge_explain.proofs.Right.{Whole}
 use Rattle.pairs.specs.declared.Differing.{Differing}
@@ -84,8 +84,8 @@ module _ (w report : List ℕ) (at : ℕ) (q : Question) (k : ℕ) where
       go : {f : List ℕ} → BreachField w q k f → Holds report at f → (L : List ℕ) × Reason q.size (records_in q.len w) q.before q.s.0 q.t.0 L × Holds report at (field 134 (numbers (k ∷ L)))
       go (of {L = L} r) h = (L, r, h)
 
-  pub breach-cut : {r : Front} → FrontAt report at r → r ≡ Cut → Breached w w report at q k Wrong
-  breach-cut f e = record { kept = within-refl w; right = wrong (λ x. let b = breach-found x in go f e b.0 b.2) }
+  pub breach-cut : {r : Front} → FrontAt report at r → r ≡ Cut → Breached w w report at q k (Err at)
+  breach-cut f e = record { kept = within-refl w; right = wrong (λ x. let b = breach-found x in go f e b.0 b.2) refl }
     where
       go : {r : Front} → FrontAt report at r → r ≡ Cut → (L : List ℕ) → Holds report at (field 134 (numbers (k ∷ L))) → ⊥
       go (whole body h) e L g = let z : ◌≡◌ {A = ℕ} 0 1 = cc in omega arith
@@ -97,32 +97,32 @@ module _ (w report : List ℕ) (at : ℕ) (q : Question) (k : ℕ) where
       (r.0, r.1)
 
   module _ {kind size : ℕ} (f : Whole report at kind size) where
-    pub breach-other : kind ≢ 134 → Breached w w report at q k Wrong
-    breach-other h = record { kept = within-refl w; right = wrong (λ x. let r = breach-found x in h (fields-one f r.0 r.2).0) }
+    pub breach-other : kind ≢ 134 → Breached w w report at q k (Err at)
+    breach-other h = record { kept = within-refl w; right = wrong (λ x. let r = breach-found x in h (fields-one f r.0 r.2).0) refl }
 
-    pub breach-right : {w' : List ℕ} → kind ≡ 134 → Within scratch w w' → NumberedReason w report (at + 3) size q k → Breached w w' report at q k (To (at + 3 + size))
+    pub breach-right : {w' : List ℕ} → kind ≡ 134 → Within scratch w w' → NumberedReason w report (at + 3) size q k → Breached w w' report at q k (Ok (at + 3 + size))
     breach-right {w'} e g r =
         let l : length (numbers (k ∷ r.list)) ≡ size = length-numbers (k ∷ r.list) ∙ omega (arith, r.all) in
         let b : f.body ≡ numbers (k ∷ r.list) = holds-one report (at + 3) f.body (numbers (k ∷ r.list)) (f.long ∙ sym l) (field-body report at kind f.body f.holds) r.stand in
         let h : Holds report at (field 134 (numbers (k ∷ r.list))) = rw (b, e) at f.holds in
         record { kept = g; right = to {p = at + 3 + size} (of r.reason) h (omega (arith, length-field 134 (numbers (k ∷ r.list)), l)) }
 
-    pub breach-wrong : {w' : List ℕ} → Within scratch w w' → (NumberedReason w report (at + 3) size q k → ⊥) → Breached w w' report at q k Wrong
-    breach-wrong {w'} g h = record { kept = g; right = wrong (λ x. let r = breach-found x in go r.0 r.1 r.2 (fields-one f r.0 r.2).1) }
+    pub breach-wrong : {w' : List ℕ} → Within scratch w w' → (NumberedReason w report (at + 3) size q k → ⊥) → Breached w w' report at q k (Err at)
+    breach-wrong {w'} g h = record { kept = g; right = wrong (λ x. let r = breach-found x in go r.0 r.1 r.2 (fields-one f r.0 r.2).1) refl }
       where
         go : (L : List ℕ) → Reason q.size (records_in q.len w) q.before q.s.0 q.t.0 L → Holds report at (field 134 (numbers (k ∷ L))) → f.body ≡ numbers (k ∷ L) → ⊥
         go L r b e = h (record { list = L; all = omega (arith, length-numbers (k ∷ L), ap length e, f.long); stand = field-body report at 134 (numbers (k ∷ L)) b; reason = r })
 
 -- The field that says that none is broken.
-pub intact-there : {report : List ℕ} {at : ℕ} → Holds report at (field 135 []) → RightAt IntactField report at (To (at + 3))
+pub intact-there : {report : List ℕ} {at : ℕ} → Holds report at (field 135 []) → RightAt IntactField report at (Ok (at + 3))
 intact-there {report} {at} h = to {p = at + 3} refl h (omega (arith, length-field 135 []))
 
-pub intact-not : {report : List ℕ} {at : ℕ} → (Holds report at (field 135 []) → ⊥) → RightAt IntactField report at Wrong
-intact-not {report} {at} n = wrong (λ x. let r = found report at x in n (rw r.is at r.holds))
+pub intact-not : {report : List ℕ} {at : ℕ} → (Holds report at (field 135 []) → ⊥) → RightAt IntactField report at (Err at)
+intact-not {report} {at} n = wrong (λ x. let r = found report at x in n (rw r.is at r.holds)) refl
 
 -- What is right by the table is right for the job.
 module _ {job w : List ℕ} {H : Head} {len joins before differs : ℕ} (B : Breaking job w H len joins before differs) where
-  pub checked-none : {report : List ℕ} {at : ℕ} {answer : Passed} → Unbroken (records_of (items_in job)) before (pairs_of (items_in job)) differs → RightAt IntactField report at answer → Checked job report w w before differs at answer
+  pub checked-none : {report : List ℕ} {at : ℕ} {answer : Result ℕ ℕ} → Unbroken (records_of (items_in job)) before (pairs_of (items_in job)) differs → RightAt IntactField report at answer → Checked plain_rules job report w w before differs at answer
   checked-none {report} {at} u h = record { kept = within-refl w; right = λ b x y. go b x y h }
     where
       no-breach : (b : Moment) → b.records ≡ before → b.differs ≡ differs → {L f : List ℕ} → told.Reasoned (matter_in job) b broken L f → ⊥
@@ -132,9 +132,9 @@ module _ {job w : List ℕ} {H : Head} {len joins before differs : ℕ} (B : Bre
       only b x y (told.reasoned r g) = absurd (no-breach b x y r)
       only b x y (told.intact v) = refl
 
-      go : (b : Moment) → b.records ≡ before → b.differs ≡ differs → {a : Passed} → RightAt IntactField report at a → PassedAt (matter_in job) b broken report at a
+      go : (b : Moment) → b.records ≡ before → b.differs ≡ differs → {a : Result ℕ ℕ} → RightAt IntactField report at a → PassedAt plain_rules (matter_in job) b broken report at a
       go b x y (to {f = f} {p = p} e g i) = pass.to {f = f} {p = p} (rw e (told.intact (rw (x, y) u))) g i
-      go b x y (wrong n) = pass.wrong (λ z. n (stands-map (λ f a. only b x y a) z)) (λ L z. reasonless (λ K f r. no-breach b x y r) z)
+      go b x y (wrong n i) = pass.wrong (λ z. n (stands-map (λ f a. only b x y a) z)) (λ L z. reasonless plain_rules (λ K f r. no-breach b x y r) z) i
 
   module _ {k : ℕ} {p : Differing} {q : Question} (s : Scanned w differs before k) (e : Earliest (records_of (items_in job)) before (pairs_of (items_in job)) differs k) (f : Found job k p)
       (z : q ≡ record { size = H.size; unit = H.units; sheeted = H.sheeted; len = len; joins = joins; before = before; s = p.s; t = p.t }) where
@@ -172,12 +172,12 @@ module _ {job w : List ℕ} {H : Head} {len joins before differs : ℕ} (B : Bre
         list_at : (report : List ℕ) (at : ℕ) (L : List ℕ) → Holds report at (field 134 (numbers (k ∷ L))) → Holds report (at + 5) (numbers L)
         list_at report at L h = let o : at + 3 + 2 ≡ at + 5 = omega arith in subst (λ (n : ℕ). Holds report n (numbers L)) o (list-behind report (at + 3) k L (field-body report at 134 (numbers (k ∷ L)) h)).1
 
-    pub reasoning-there : {report w' : List ℕ} {at : ℕ} {passed : Passed} → at ≤ length report → Breached w w' report at q k passed → Reasoning job report w' H.sheeted at 5 passed
-    reasoning-there {report} {w'} {at} {passed} l g = record { edition = ap (λ (h : Head). h.sheeted) B.head; behind = λ end i. go (rw z at g.right) i }
+    pub behind-there : {report w' : List ℕ} {at end : ℕ} → at ≤ length report → Breached w w' report at q k (Ok end) → Behind job report w' (at + 5) end
+    behind-there {report} {w'} {at} {end} l g = go (rw z at g.right) refl
       where
-        go : {a : Passed} {end : ℕ} → RightAt (BreachField w Q k) report at a → a ≡ To end → Behind job report w' (at + 5) end
-        go {a} {end} (to {p = p'} (of r) h i) j = let y : p' ≡ end = cc in reason-behind g.kept l r h (sym y ∙ i)
-        go (wrong n) j = let y : ◌≡◌ {A = ℕ} 0 1 = cc in absurd (omega arith)
+        go : {a : Result ℕ ℕ} → RightAt (BreachField w Q k) report at a → a ≡ Ok end → Behind job report w' (at + 5) end
+        go (to {p = p'} (of r) h i) j = let y : p' ≡ end = cc in reason-behind g.kept l r h (sym y ∙ i)
+        go (wrong n i) j = let y : ◌≡◌ {A = ℕ} 0 1 = cc in absurd (omega arith)
 
     module _ (b : Moment) (x : b.records ≡ before) (y : b.differs ≡ differs) where
       breach-there : {L : List ℕ} → Reason H.size (records_in len w) before p.s.0 p.t.0 L → told.Reasoned (matter_in job) b broken L (field 134 (numbers (k ∷ L)))
@@ -188,15 +188,29 @@ module _ {job w : List ℕ} {H : Head} {len joins before differs : ℕ} (B : Bre
           let i : k' ≡ k = earliest-one (rw (x, y) at e') e in
           rw i (of {L = L} (rw B.records (rw (x, B.head, i, f.is) at r)))
 
-      no_answer : {report : List ℕ} {at : ℕ} → (Stands (BreachField w Q k) (drop at report) → ⊥) → PassedAt (matter_in job) b broken report at Wrong
-      no_answer n = pass.wrong (λ v. let r = front.broken-right {M = matter_in job} {b = b} {k = k} (rw (x, y) e) v in n (stands-map (λ g o. back o) r.1)) (λ L v. n (stands-map (λ g o. back o) v))
+      no_answer : {report : List ℕ} {at v : ℕ} → RightAt (BreachField w Q k) report at (Err v) → PassedAt plain_rules (matter_in job) b broken report at (Err v)
+      no_answer {report} {at} {v} r = go r refl
+        where
+          go : {a : Result ℕ ℕ} → RightAt (BreachField w Q k) report at a → a ≡ Err v → PassedAt plain_rules (matter_in job) b broken report at (Err v)
+          go (to h g i) j = let o : ◌≡◌ {A = ℕ} 0 1 = cc in absurd (omega arith)
+          go (wrong {p = v'} n i) j =
+              let o : v' ≡ v = cc in
+              pass.wrong (λ u. let r = front.broken-right {M = matter_in job} {b = b} {k = k} (rw (x, y) e) u in n (stands-map (λ g m. back m) r.1)) (λ L u. n (stands-map (λ g m. back m) u)) (sym o ∙ i)
 
-      breach-answer : {report w₁ w₂ : List ℕ} {at : ℕ} {passed answer : Passed} → RightAt (BreachField w Q k) report at passed → Turned job report w₁ w₂ (at + 5) passed answer → PassedAt (matter_in job) b broken report at answer
-      breach-answer {report} {at = at} (to {p = p'} (of {L = L} r) h i) t =
-          let o : at + 3 + 2 ≡ at + 5 = omega arith in
-          reason-passed (breach-there r) h i
-          (t.some p' refl L (omega (arith, length-field 134 (numbers (k ∷ L)), length-numbers (k ∷ L))) (subst (λ (n : ℕ). Holds report n (numbers L)) o (list-behind report (at + 3) k L (field-body report at 134 (numbers (k ∷ L)) h)).1))
-      breach-answer {report} {at = at} (wrong n) t = subst (λ (a : Passed). PassedAt (matter_in job) b broken report at a) (sym (t.none refl)) (no_answer n)
+      breach-answer : {report w₁ w₂ : List ℕ} {at end : ℕ} {answer : Result ℕ ℕ} → RightAt (BreachField w Q k) report at (Ok end) → Sheeted job report w₁ w₂ (at + 5) end answer → PassedAt plain_rules (matter_in job) b broken report at answer
+      breach-answer {report} {w₁} {w₂} {at} {end} {answer} r t = go r refl
+        where
+          go : {a : Result ℕ ℕ} → RightAt (BreachField w Q k) report at a → a ≡ Ok end → PassedAt plain_rules (matter_in job) b broken report at answer
+          go (to {p = p'} (of {L = L} r) h i) j =
+              let n : p' ≡ end = cc in
+              let m : end ≡ at + length (field 134 (numbers (k ∷ L))) = sym n ∙ i in
+              let o : at + 3 + 2 ≡ at + 5 = omega arith in
+              reason-passed plain_laws (breach-there r) h m
+              (t.right L (omega (arith, length-field 134 (numbers (k ∷ L)), length-numbers (k ∷ L))) (subst (λ (n : ℕ). Holds report n (numbers L)) o (list-behind report (at + 3) k L (field-body report at 134 (numbers (k ∷ L)) h)).1))
+          go (wrong n i) j = let o : ◌≡◌ {A = ℕ} 0 1 = cc in absurd (omega arith)
 
-    pub checked-some : {w₁ w₂ report : List ℕ} {at : ℕ} {passed answer : Passed} → Breached w w₁ report at q k passed → Turned job report w₁ w₂ (at + 5) passed answer → Checked job report w w₂ before differs at answer
+    pub checked-some : {w₁ w₂ report : List ℕ} {at end : ℕ} {answer : Result ℕ ℕ} → Breached w w₁ report at q k (Ok end) → Sheeted job report w₁ w₂ (at + 5) end answer → Checked plain_rules job report w w₂ before differs at answer
     checked-some h t = record { kept = within-trans h.kept t.kept; right = λ b x y. breach-answer b x y (rw z at h.right) t }
+
+    pub checked-missing : {w₁ report : List ℕ} {at v : ℕ} → Breached w w₁ report at q k (Err v) → Checked plain_rules job report w w₁ before differs at (Err v)
+    checked-missing h = record { kept = h.kept; right = λ b x y. no_answer b x y (rw z at h.right) }

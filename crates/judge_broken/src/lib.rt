@@ -2,6 +2,7 @@
 // Document 02, No. 1 and 9. Rests on pairs, moment, answer_ask, judge_sheets, report, report_read and judge_explain.
 #![tactic(auto)]
 
+ghost use Rattle.profile.specs.Plain.{plain_rules};
 ghost use Rattle.std.specs.Prelude.{◌≡◌, ◌+◌, ◌≤◌, ◌<◌, length};
 ghost use Rattle.pairs.specs.Breaking.{Breaking};
 ghost use Rattle.moment.specs.Posed.{head_of, Deciding};
@@ -9,7 +10,6 @@ ghost use Rattle.judge_explain.specs.Right.{Known};
 ghost use Rattle.judge_broken.specs.Checked.{NumberedReason, IntactField, Breached, Checked};
 ghost use Rattle.answer_ask.specs.Right.{RightAt};
 
-use answer_ask::Passed;
 use judge_explain::is_reason;
 use judge_sheets::sheets_behind;
 use meaning::Tag;
@@ -17,12 +17,6 @@ use moment::{Closed, Question};
 use pairs::{first_broken, pair_at};
 use report_read::{Front, front_at, is_bare, number_in};
 use table::since;
-
-fn wide(x: u16) -> usize
-    ensures { result ≡ x }
-{
-    x as usize
-}
 
 // Whether so many bytes at a place are the number of a pair and the numbers of a reason, where `first` is the first k.
 fn is_breach(
@@ -40,7 +34,7 @@ fn is_breach(
     if bytes < 2 {
         return false;
     }
-    if wide(number_in(report, at)) != number {
+    if usize::from(number_in(report, at)) != number {
         return false;
     }
     is_reason(report, at + 2, bytes - 2, work, q, first)
@@ -54,39 +48,39 @@ fn breach(
     q: Question,
     first: usize,
     number: usize,
-) -> Passed
+) -> Result<usize, usize>
     requires { Known work.old q first × (at ≤ length report.now) }
     ensures { Breached work.old work.new report.now at q number result }
 {
     match front_at(report, at) {
-        Front::Cut => Passed::Wrong,
+        Front::Cut => Err(at),
         Front::Field(kind, bytes) => {
             if kind != report::BREACHED {
-                return Passed::Wrong;
+                return Err(at);
             }
             if is_breach(report, at + 3, bytes, work, q, first, number) {
-                Passed::To(at + 3 + bytes)
+                Ok(at + 3 + bytes)
             } else {
-                Passed::Wrong
+                Err(at)
             }
         }
     }
 }
 
 // Whether a place says that no pair is broken.
-fn intact(report: &[u8], at: usize) -> Passed
+fn intact(report: &[u8], at: usize) -> Result<usize, usize>
     requires { at ≤ length report.now }
     ensures { RightAt IntactField report.now at result }
 {
     if is_bare(report, at, report::INTACT) {
-        Passed::To(at + 3)
+        Ok(at + 3)
     } else {
-        Passed::Wrong
+        Err(at)
     }
 }
 
-// The question why the tags of a pair are equal.
-fn asked(c: Closed, before: usize, s: Tag, t: Tag) -> Question
+// The question why two tags are equal, among what the closure left.
+pub fn asked(c: Closed, before: usize, s: Tag, t: Tag) -> Question
     ensures { result ≡ record { size = c.size; unit = c.unit; sheeted = c.sheeted; len = c.len; joins = c.joins; before = before; s = s; t = t } }
 {
     Question {
@@ -111,9 +105,9 @@ pub fn checked(
     c: Closed,
     before: usize,
     differs: usize,
-) -> Passed
+) -> Result<usize, usize>
     requires { Breaking job.now work.old (head_of c) c.len c.joins before differs × (at ≤ length report.now) }
-    ensures { Checked job.now report.now work.old work.new before differs at result }
+    ensures { Checked plain_rules job.now report.now work.old work.new before differs at result }
 {
     let number = first_broken(work, differs, before);
     if number == 0 {
@@ -121,13 +115,13 @@ pub fn checked(
     }
     let pair = pair_at(job, number);
     let first = since(work, number - 1);
-    let found = breach(
+    let end = breach(
         report,
         at,
         work,
         asked(c, before, pair.s, pair.t),
         first,
         number,
-    );
-    sheets_behind(found, job, report, at, 5, work, c.sheeted)
+    )?;
+    sheets_behind(job, report, at + 5, end, work, c.sheeted)
 }

@@ -3,7 +3,7 @@
 use Prim.Native.Nat.{ℕ, suc, ◌+◌, ◌-◌, ◌*◌, ◌/◌, ◌%◌, ◌≤◌, ◌<◌}
 use native.Mathlib.Omega.{arith}
 use native.Mathlib.Decide.{ℕ_discrete}
-use mathlib.Core.Path.{◌≡◌, refl, sym, ◌∙◌, ap, subst}
+use mathlib.Core.Path.{◌≡◌, refl, sym, ◌∙◌, ap}
 use mathlib.Core.Logic.{◌≢◌, ◌↔◌}
 use mathlib.Core.Bool.{Bool, true, false}
 use mathlib.Core.List.{List, [], ◌∷◌, Memᴰ}
@@ -17,7 +17,7 @@ use Rattle.meaning.proofs.Reference.{Small}
 use Rattle.meaning.proofs.Trim.{member-le-last, le-last}
 use Rattle.meaning.proofs.Close.{more_of}
 use Rattle.job_field.specs.Items.{Head, Moment, explain, records_of}
-use Rattle.job_field.specs.Reading.{items_in, matter_in}
+use Rattle.job_field.specs.Reading.{head_in, items_in, matter_in}
 use Rattle.table.specs.Map.{rec_at, records_in, list_of, list_in, Within}
 use Rattle.table.proofs.Frame.{within-refl, within-trans, within_wider, length-gather}
 use Rattle.moment.proofs.Kept.{kept-records, kept-loaded}
@@ -37,14 +37,14 @@ use Rattle.table.specs.Places.{most_waiting, scratch}
 use Rattle.report_read.proofs.Read.{holds-rest, holds-one, field-body, field_room}
 use Rattle.report_read.proofs.Right as front
 use Rattle.moment.specs.declared.Question.{Question}
-use Rattle.answer_ask.specs.declared.Passed.TheVariants.{To, Wrong}
+use Rattle.std.specs.Prelude.{Result, Ok, Err}
 use Rattle.moment.specs.Posed.{head_asked, Deciding}
-use Rattle.answer_ask.specs.declared.Passed.{Passed}
 use Rattle.answer_ask.specs.Right as far
 use Rattle.answer_ask.specs.Right.{RightAt}
 use Rattle.judge_sheets.specs.Passing.{PassedAt, to, wrong}
-use Rattle.judge_sheets.specs.Behind.{Behind, Reasoning, Turned}
+use Rattle.judge_sheets.specs.Behind.{Behind, Sheeted}
 use Rattle.judge_sheets.proofs.Passing.{reasonless, reason-passed}
+use Rattle.profile.specs.Plain.{plain_rules, plain_laws}
 use Rattle.answer_ask.proofs.Right.{found}
 use Rattle.judge_explain.specs.Right.{BecauseField, of, Assuring, Grounded, Explaining, Explained, Reasoned, Known}
 use Rattle.reason_order.specs.Order.{Rising}
@@ -61,15 +61,16 @@ module _ {job w : List ℕ} {q : Question} (E : Explaining job w q) (h : Follows
   apart-then : (b : Moment) → b.records ≡ q.before → Follows (UpTo (matter_in job).records b.records) q.s.0 q.t.0 → ⊥
   apart-then b e f = h (rw ((known E b e).records, e) at f)
 
-  pub apart-passed : Holds report at (field 133 []) → Explained job report w w at q (To (at + 3))
+  pub apart-passed : Holds report at (field 133 []) → Explained plain_rules job report w w at q (Ok (at + 3))
   apart-passed g = record { kept = within-refl w; right = λ b e. to {p = at + 3} (told.apart (apart-then b e)) g (omega (arith, length-field 133 [])) }
 
-  pub apart-missing : (Holds report at (field 133 []) → ⊥) → Explained job report w w at q Wrong
+  pub apart-missing : (Holds report at (field 133 []) → ⊥) → Explained plain_rules job report w w at q (Err at)
   apart-missing g = record {
     kept = within-refl w;
     right = λ b e. wrong
         (λ x. let r = front.apart-right {M = matter_in job} {b = b} (apart-then b e) x in g (holds-rest report at (field 133 []) r.0 r.1))
-        (λ L x. reasonless (λ K f r. none b e r) x);
+        (λ L x. reasonless plain_rules (λ K f r. none b e r) x)
+        refl;
   }
     where
       none : (b : Moment) → b.records ≡ q.before → {K f : List ℕ} → told.Reasoned (matter_in job) b (explain q.s.0 q.t.0) K f → ⊥
@@ -205,25 +206,25 @@ module _ (w report : List ℕ) (at : ℕ) (q : Question) where
       go : {f : List ℕ} → BecauseField w q f → Holds report at f → (L : List ℕ) × Reason q.size (records_in q.len w) q.before q.s.0 q.t.0 L × Holds report at (field 132 (numbers L))
       go (of {L = L} r) h = (L, r, h)
 
-  pub because-cut : {r : Front} → FrontAt report at r → r ≡ Cut → Grounded w w report at q Wrong
-  because-cut f e = record { kept = within-refl w; right = far.wrong (λ x. let b = reason-found x in go f e b.0 b.2) }
+  pub because-cut : {r : Front} → FrontAt report at r → r ≡ Cut → Grounded w w report at q (Err at)
+  because-cut f e = record { kept = within-refl w; right = far.wrong (λ x. let b = reason-found x in go f e b.0 b.2) refl }
     where
       go : {r : Front} → FrontAt report at r → r ≡ Cut → (L : List ℕ) → Holds report at (field 132 (numbers L)) → ⊥
       go (whole body h) e L g = let z : ◌≡◌ {A = ℕ} 0 1 = cc in omega arith
       go (none h) e L g = h 132 (numbers L) g
 
   module _ {kind size : ℕ} (f : Whole report at kind size) where
-    pub because-other : kind ≢ 132 → Grounded w w report at q Wrong
-    because-other h = record { kept = within-refl w; right = far.wrong (λ x. let r = reason-found x in h (fields-one report at kind 132 f.body (numbers r.0) f.holds r.2).0) }
+    pub because-other : kind ≢ 132 → Grounded w w report at q (Err at)
+    because-other h = record { kept = within-refl w; right = far.wrong (λ x. let r = reason-found x in h (fields-one report at kind 132 f.body (numbers r.0) f.holds r.2).0) refl }
 
-    pub because-right : {w' : List ℕ} → kind ≡ 132 → Within scratch w w' → Reasoned w report (at + 3) size q → Grounded w w' report at q (To (at + 3 + size))
+    pub because-right : {w' : List ℕ} → kind ≡ 132 → Within scratch w w' → Reasoned w report (at + 3) size q → Grounded w w' report at q (Ok (at + 3 + size))
     because-right {w'} e g r =
         let b : f.body ≡ numbers r.list = holds-one report (at + 3) f.body (numbers r.list) (f.long ∙ sym r.all ∙ sym (length-numbers r.list)) (field-body report at kind f.body f.holds) r.stand in
         let h : Holds report at (field 132 (numbers r.list)) = rw (b, e) at f.holds in
         record { kept = g; right = far.to {p = at + 3 + size} (of r.reason) h (omega (arith, length-field 132 (numbers r.list), length-numbers r.list, r.all)) }
 
-    pub because-wrong : {w' : List ℕ} → Within scratch w w' → (Reasoned w report (at + 3) size q → ⊥) → Grounded w w' report at q Wrong
-    because-wrong {w'} g h = record { kept = g; right = far.wrong (λ x. let r = reason-found x in go r.0 r.1 r.2 (fields-one report at kind 132 f.body (numbers r.0) f.holds r.2).1) }
+    pub because-wrong : {w' : List ℕ} → Within scratch w w' → (Reasoned w report (at + 3) size q → ⊥) → Grounded w w' report at q (Err at)
+    because-wrong {w'} g h = record { kept = g; right = far.wrong (λ x. let r = reason-found x in go r.0 r.1 r.2 (fields-one report at kind 132 f.body (numbers r.0) f.holds r.2).1) refl }
       where
         go : (L : List ℕ) → Reason q.size (records_in q.len w) q.before q.s.0 q.t.0 L → Holds report at (field 132 (numbers L)) → f.body ≡ numbers L → ⊥
         go L r b e = h (record { list = L; all = sym (length-numbers L) ∙ sym (ap length e) ∙ f.long; stand = field-body report at 132 (numbers L) b; reason = r })
@@ -247,12 +248,15 @@ module _ {job w : List ℕ} {q : Question} (E : Explaining job w q) where
     there = λ n i. omega (arith, r.stand n i, early);
   }
 
-  pub reasoning-there : {report w' : List ℕ} {at : ℕ} {passed : Passed} → at ≤ length report → Grounded w w' report at q passed → Reasoning job report w' q.sheeted at 3 passed
-  reasoning-there {report} {w'} {at} {passed} l g = record { edition = ap (λ (h : Head). h.sheeted) E.head; behind = λ end e. go g.right e }
+  pub behind-there : {report w' : List ℕ} {at end : ℕ} → at ≤ length report → Grounded w w' report at q (Ok end) → Behind job report w' (at + 3) end
+  behind-there {report} {w'} {at} {end} l g = go g.right refl
     where
-      go : {p : Passed} {end : ℕ} → RightAt (BecauseField w q) report at p → p ≡ To end → Behind job report w' (at + 3) end
-      go {p} {end} (far.to {p = p'} (of r) h i) e = let z : p' ≡ end = cc in reason-behind g.kept l r h (sym z ∙ i)
-      go (far.wrong n) e = let y : ◌≡◌ {A = ℕ} 0 1 = cc in absurd (omega arith)
+      go : {p : Result ℕ ℕ} → RightAt (BecauseField w q) report at p → p ≡ Ok end → Behind job report w' (at + 3) end
+      go (far.to {p = p'} (of r) h i) e = let z : p' ≡ end = cc in reason-behind g.kept l r h (sym z ∙ i)
+      go (far.wrong n i) e = let y : ◌≡◌ {A = ℕ} 0 1 = cc in absurd (omega arith)
+
+  pub edition-there : (head_in job).sheeted ≡ q.sheeted
+  edition-there = ap (λ (h : Head). h.sheeted) E.head
 
   module _ {k : ℕ} (K : Known w q k) (b : Moment) (e : b.records ≡ q.before) where
     field-because : {L f : List ℕ} → told.Reasoned (matter_in job) b (explain q.s.0 q.t.0) L f → BecauseField w q f
@@ -264,13 +268,27 @@ module _ {job w : List ℕ} {q : Question} (E : Explaining job w q) where
     follows : Follows (UpTo (matter_in job).records b.records) q.s.0 q.t.0
     follows = rw ((known E b e).records, e) (more_of (λ n l. omega (arith, K.early)) K.first.then)
 
-    no_answer : {report : List ℕ} {at : ℕ} → (Stands (BecauseField w q) (drop at report) → ⊥) → PassedAt (matter_in job) b (explain q.s.0 q.t.0) report at Wrong
-    no_answer n = wrong (λ x. let y = front.follows-right {M = matter_in job} {b = b} follows x in n (stands-map (λ f r. field-because r) y.1)) (λ L x. n (stands-map (λ f r. field-because r) x))
+    no_answer : {report : List ℕ} {at p : ℕ} → RightAt (BecauseField w q) report at (Err p) → PassedAt plain_rules (matter_in job) b (explain q.s.0 q.t.0) report at (Err p)
+    no_answer {report} {at} {p} r = go r refl
+      where
+        go : {a : Result ℕ ℕ} → RightAt (BecauseField w q) report at a → a ≡ Err p → PassedAt plain_rules (matter_in job) b (explain q.s.0 q.t.0) report at (Err p)
+        go (far.to x h i) z = let y : ◌≡◌ {A = ℕ} 0 1 = cc in absurd (omega arith)
+        go (far.wrong {p = p'} n i) z =
+            let o : p' ≡ p = cc in
+            wrong (λ x. let y = front.follows-right {M = matter_in job} {b = b} follows x in n (stands-map (λ f r. field-because r) y.1)) (λ L x. n (stands-map (λ f r. field-because r) x)) (sym o ∙ i)
 
-    because-answer : {report w₁ w₂ : List ℕ} {at : ℕ} {passed answer : Passed} → RightAt (BecauseField w q) report at passed → Turned job report w₁ w₂ (at + 3) passed answer → PassedAt (matter_in job) b (explain q.s.0 q.t.0) report at answer
-    because-answer {report} {at = at} (far.to {p = p} (of {L = L} r) h i) t =
-        reason-passed (because-known (known E b e) r) h i (t.some p refl L (omega (arith, length-field 132 (numbers L), length-numbers L)) (field-body report at 132 (numbers L) h))
-    because-answer {report} {at = at} {answer = answer} (far.wrong n) t = subst (λ (a : Passed). PassedAt (matter_in job) b (explain q.s.0 q.t.0) report at a) (sym (t.none refl)) (no_answer n)
+    because-answer : {report w₁ w₂ : List ℕ} {at end : ℕ} {answer : Result ℕ ℕ} → RightAt (BecauseField w q) report at (Ok end) → Sheeted job report w₁ w₂ (at + 3) end answer → PassedAt plain_rules (matter_in job) b (explain q.s.0 q.t.0) report at answer
+    because-answer {report} {w₁} {w₂} {at} {end} {answer} r t = go r refl
+      where
+        go : {a : Result ℕ ℕ} → RightAt (BecauseField w q) report at a → a ≡ Ok end → PassedAt plain_rules (matter_in job) b (explain q.s.0 q.t.0) report at answer
+        go (far.to {p = p} (of {L = L} x) h i) z =
+            let o : p ≡ end = cc in
+            let j : end ≡ at + length (field 132 (numbers L)) = sym o ∙ i in
+            reason-passed plain_laws (because-known (known E b e) x) h j (t.right L (omega (arith, length-field 132 (numbers L), length-numbers L)) (field-body report at 132 (numbers L) h))
+        go (far.wrong n i) z = let y : ◌≡◌ {A = ℕ} 0 1 = cc in absurd (omega arith)
 
-  pub because-explained : {k : ℕ} {report w₁ w₂ : List ℕ} {at : ℕ} {passed answer : Passed} → Known w q k → Grounded w w₁ report at q passed → Turned job report w₁ w₂ (at + 3) passed answer → Explained job report w w₂ at q answer
+  pub because-explained : {k : ℕ} {report w₁ w₂ : List ℕ} {at end : ℕ} {answer : Result ℕ ℕ} → Known w q k → Grounded w w₁ report at q (Ok end) → Sheeted job report w₁ w₂ (at + 3) end answer → Explained plain_rules job report w w₂ at q answer
   because-explained K g t = record { kept = within-trans g.kept t.kept; right = λ b e. because-answer K b e g.right t }
+
+  pub none-explained : {k : ℕ} {report w₁ : List ℕ} {at p : ℕ} → Known w q k → Grounded w w₁ report at q (Err p) → Explained plain_rules job report w w₁ at q (Err p)
+  none-explained K g = record { kept = g.kept; right = λ b e. no_answer K b e g.right }

@@ -3,15 +3,14 @@
 // reason_order and reason_test.
 #![tactic(auto)]
 
+ghost use Rattle.profile.specs.Plain.{plain_rules};
 ghost use Rattle.std.specs.Prelude.{◌+◌, ◌≤◌, length};
 ghost use Rattle.moment.specs.Posed.{Posed, Deciding};
 ghost use Rattle.judge_explain.specs.Right.{Assuring, Grounded, Explaining, Explained, Reasoned, Known};
 
-use answer_ask::Passed;
 use judge_sheets::sheets_behind;
 use moment::Question;
 use pairs::came;
-use reason::Answer;
 use reason_order::rises;
 use reason_test::serves;
 use report_read::Front;
@@ -22,8 +21,8 @@ fn is_own(report: &[u8], at: usize, bytes: usize, work: &mut [u16], q: Question)
     ensures { Assuring (Reasoned work.old report.now at bytes q) work.old work.new result }
 {
     match reason::explain(work, q.size, q.len, q.joins, q.before, q.s, q.t) {
-        Answer::Apart => false,
-        Answer::Because(count) => {
+        None => false,
+        Some(count) => {
             if 2 * count != bytes {
                 return false;
             }
@@ -79,38 +78,50 @@ pub fn is_reason(
 }
 
 // Whether a reason stands at a place, where `first` is the first k.
-fn because(report: &[u8], at: usize, work: &mut [u16], q: Question, first: usize) -> Passed
+fn because(
+    report: &[u8],
+    at: usize,
+    work: &mut [u16],
+    q: Question,
+    first: usize,
+) -> Result<usize, usize>
     requires { Known work.old q first × (at ≤ length report.now) }
     ensures { Grounded work.old work.new report.now at q result }
 {
     match report_read::front_at(report, at) {
-        Front::Cut => Passed::Wrong,
+        Front::Cut => Err(at),
         Front::Field(kind, bytes) => {
             if kind != report::BECAUSE {
-                return Passed::Wrong;
+                return Err(at);
             }
             if is_reason(report, at + 3, bytes, work, q, first) {
-                Passed::To(at + 3 + bytes)
+                Ok(at + 3 + bytes)
             } else {
-                Passed::Wrong
+                Err(at)
             }
         }
     }
 }
 
 // Whether the answer to an explain stands at a place: a reason with its sheets, or that the equality does not follow.
-pub fn explained(job: &[u8], report: &[u8], at: usize, work: &mut [u16], q: Question) -> Passed
+pub fn explained(
+    job: &[u8],
+    report: &[u8],
+    at: usize,
+    work: &mut [u16],
+    q: Question,
+) -> Result<usize, usize>
     requires { Explaining job.now work.old q × (at ≤ length report.now) }
-    ensures { Explained job.now report.now work.old work.new at q result }
+    ensures { Explained plain_rules job.now report.now work.old work.new at q result }
 {
     let first = came(work, q);
     if first <= q.before {
-        let found = because(report, at, work, q, first);
-        return sheets_behind(found, job, report, at, 3, work, q.sheeted);
+        let end = because(report, at, work, q, first)?;
+        return sheets_behind(job, report, at + 3, end, work, q.sheeted);
     }
     if report_read::is_apart(report, at) {
-        Passed::To(at + 3)
+        Ok(at + 3)
     } else {
-        Passed::Wrong
+        Err(at)
     }
 }

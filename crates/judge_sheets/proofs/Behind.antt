@@ -2,7 +2,7 @@
 -- Assumes nothing.
 use Prim.Native.Nat.{ℕ, ◌+◌, ◌*◌, ◌-◌, ◌/◌, ◌≤◌}
 use native.Mathlib.Omega.{arith}
-use mathlib.Core.Path.{◌≡◌, refl, sym, ◌∙◌, subst}
+use mathlib.Core.Path.{◌≡◌, refl, sym, subst}
 use mathlib.Core.Bool.{true, false}
 use mathlib.Core.List.{List, Memᴰ}
 use lib.ListN.{length}
@@ -15,15 +15,15 @@ use Rattle.table.proofs.Frame.{within-refl, within-trans, within_wider, length-g
 use Rattle.report.specs.Sheets.{Sheets}
 use Rattle.report.specs.Report.{numbers, Filed, unfiled, filed}
 use Rattle.report.proofs.Bytes.{length-numbers, numbers-one}
+use Rattle.std.proofs.Common.{None, Some}
 use Rattle.report_read.specs.Read.{Holds}
 use Rattle.report_read.proofs.Read.{holds-one, holds-none}
 use Rattle.report_numbers.specs.Read.{ListRead}
 use Rattle.sheets_walk.specs.Walk.{Listed}
 use Rattle.sheets_field.specs.Field as sheets
-use Rattle.answer_ask.specs.declared.Passed.{Passed}
-use Rattle.answer_ask.specs.declared.Passed.TheVariants.{To, Wrong, Astray}
+use Rattle.std.specs.Prelude.{Ok, Err}
 use Rattle.answer_ask.proofs.Right.{found}
-use Rattle.judge_sheets.specs.Behind.{Behind, Filing, stood, missing, Sheeted, Turned}
+use Rattle.judge_sheets.specs.Behind.{Behind, Filing, stood, missing, Sheeted}
 
 module _ {job report w : List ℕ} {from end : ℕ} (B : Behind job report w from end) where
   pub count-is : (end - from) / 2 ≡ length B.list
@@ -58,48 +58,20 @@ module _ {job report w : List ℕ} {from end : ℕ} (B : Behind job report w fro
       there = subst (λ (l : List ℕ). (k : ℕ) → Memᴰ k l → k ≤ length (records_of (items_in job))) (sym same) B.there;
     }
 
-    module _ (t : (head_in job).sheeted ≡ true) {w₂ : List ℕ} {p : ℕ} (s : sheets.Seen job w₁ w₂ report ((end - from) / 2) end p) where
-      pub sheets-missing : p ≡ 0 → Sheeted job report w w₂ from end (Astray end)
-      sheets-missing z = record { kept = within-trans wide s.kept; right = λ L e h. missing (λ x. none L (list-is L e h) (found report end x).is (found report end x).holds s.stands) refl }
+    module _ (t : (head_in job).sheeted ≡ true) {w₂ : List ℕ} where
+      pub sheets-missing : sheets.Seen job w₁ w₂ report ((end - from) / 2) end None → Sheeted job report w w₂ from end (Err end)
+      sheets-missing s = record { kept = within-trans wide s.kept; right = λ L e h. missing (λ x. none L (list-is L e h) (found report end x).is (found report end x).holds) refl }
         where
-          none : (L : List ℕ) → listed ≡ L → {g : List ℕ} → Filed (matter_in job) L g → Holds report end g → sheets.Standing job w₁ report ((end - from) / 2) end p → ⊥
-          none L i f h (sheets.right r' k q pos) = omega arith
-          none L i (unfiled u) h (sheets.wrong n q) = let y : ◌≡◌ {A = ℕ} 0 1 = cc in omega arith
-          none L i (filed {hs = hs} u v) h (sheets.wrong n q) = n hs (subst (λ (l : List ℕ). Sheets (sheets_of (items_in job)) l hs) (sym i) v) h
+          none : (L : List ℕ) → listed ≡ L → {g : List ℕ} → Filed (matter_in job) L g → Holds report end g → ⊥
+          none L i (unfiled u) h = let y : ◌≡◌ {A = ℕ} 0 1 = cc in omega arith
+          none L i (filed {hs = hs} u v) h = s.stands hs (subst (λ (l : List ℕ). Sheets (sheets_of (items_in job)) l hs) (sym i) v) h
 
-      pub sheets-there : (p ≡ 0 → ⊥) → Sheeted job report w w₂ from end (To p)
-      sheets-there z = record { kept = within-trans wide s.kept; right = λ L e h. some L (list-is L e h) s.stands }
+      pub sheets-there : (p : ℕ) → sheets.Seen job w₁ w₂ report ((end - from) / 2) end (Some p) → Sheeted job report w w₂ from end (Ok p)
+      sheets-there p s = record { kept = within-trans wide s.kept; right = λ L e h. some L (list-is L e h) }
         where
-          some : (L : List ℕ) → listed ≡ L → sheets.Standing job w₁ report ((end - from) / 2) end p → Filing job report L end (To p)
-          some L i (sheets.right {hs = hs} v k q pos) = stood (filed t (subst (λ (l : List ℕ). Sheets (sheets_of (items_in job)) l hs) i v)) k q
-          some L i (sheets.wrong n q) = absurd (z q)
+          some : (L : List ℕ) → listed ≡ L → Filing job report L end (Ok p)
+          some L i = stood (filed t (subst (λ (l : List ℕ). Sheets (sheets_of (items_in job)) l s.stands.0) i s.stands.1)) s.stands.2 s.stands.3
 
--- What a reason that was found, or none, leads to.
-module _ {job report w : List ℕ} {from : ℕ} where
-  pub turned-filed : {w' : List ℕ} {end : ℕ} {passed answer : Passed} → passed ≡ To end → Sheeted job report w w' from end answer → Turned job report w w' from passed answer
-  turned-filed {w'} {end} {passed} {answer} e s = record {
-    kept = s.kept;
-    none = λ z. let y : ◌≡◌ {A = ℕ} 0 1 = cc in absurd (omega arith);
-    some = λ end' z L h k. let q : end ≡ end' = cc in subst (λ (n : ℕ). Filing job report L n answer) q (s.right L (h ∙ sym q) k);
-  }
-
-  pub turned-bare : {end : ℕ} {passed : Passed} → (head_in job).sheeted ≡ false → passed ≡ To end → Turned job report w w from passed (To end)
-  turned-bare {end} {passed} u e = record {
-    kept = within-refl w;
-    none = λ z. let y : ◌≡◌ {A = ℕ} 0 1 = cc in absurd (omega arith);
-    some = λ end' z L h k. let q : end ≡ end' = cc in subst (λ (n : ℕ). Filing job report L n (To end)) q (stood {p = end} (unfiled u) (holds-none report end) (omega arith));
-  }
-
-  pub turned_none : {passed : Passed} → passed ≡ Wrong → Turned job report w w from passed Wrong
-  turned_none e = record {
-    kept = within-refl w;
-    none = λ z. refl;
-    some = λ end' z L h k. let y : ◌≡◌ {A = ℕ} 0 1 = cc in absurd (omega arith);
-  }
-
-  pub turned-astray : {p : ℕ} {passed : Passed} → passed ≡ Astray p → Turned job report w w from passed (Astray p)
-  turned-astray e = record {
-    kept = within-refl w;
-    none = λ z. let y : ◌≡◌ {A = ℕ} 0 1 = cc in absurd (omega arith);
-    some = λ end' z L h k. let y : ◌≡◌ {A = ℕ} 0 1 = cc in absurd (omega arith);
-  }
+-- In edition 1 nothing belongs there.
+pub bare_behind : {job report w : List ℕ} {from end : ℕ} → (head_in job).sheeted ≡ false → Sheeted job report w w from end (Ok end)
+bare_behind {report = report} {w = w} {end = end} u = record { kept = within-refl w; right = λ L h k. stood {p = end} (unfiled u) (holds-none report end) (omega arith) }

@@ -1,6 +1,6 @@
 -- The sheets behind a reason of a report. Document 02, No. 9.
 -- Assumes nothing.
-use Rattle.std.specs.Prelude.{ℕ, ◌+◌, ◌*◌, ◌≤◌, ◌≡◌, Bool, length, drop}
+use Rattle.std.specs.Prelude.{ℕ, ◌+◌, ◌*◌, ◌≤◌, ◌≡◌, length, drop, Result, Ok, Err}
 use mathlib.Core.List.{List, Memᴰ}
 use Rattle.meaning.specs.Reasons.{Above}
 use Rattle.job_field.specs.Items.{records_of}
@@ -11,8 +11,6 @@ use Rattle.table.specs.Places.{Large, most_waiting, scratch}
 use Rattle.report.specs.Report.{numbers, Filed}
 use Rattle.report.specs.Fault.{Stands}
 use Rattle.report_read.specs.Read.{Holds}
-use Rattle.answer_ask.specs.declared.Passed.{Passed}
-use Rattle.answer_ask.specs.declared.Passed.TheVariants.{To, Wrong, Astray}
 
 -- The numbers of a list stand in the report from a place up to another: rising numbers of the job's records.
 pub record Behind (job report w : List ℕ) (from end : ℕ) : Type 0 where
@@ -26,23 +24,12 @@ pub record Behind (job report w : List ℕ) (from end : ℕ) : Type 0 where
   pub rising : Above 0 list
   pub there : (k : ℕ) → Memᴰ k list → k ≤ length (records_of (items_in job))
 
--- What belongs behind a reason stands there, or does not.
-pub data Filing (job report : List ℕ) (L : List ℕ) (end : ℕ) : Passed → Type 0 where
-  stood : {g : List ℕ} {p : ℕ} → Filed (matter_in job) L g → Holds report end g → p ≡ end + length g → Filing job report L end (To p)
-  missing : {p : ℕ} → (Stands (Filed (matter_in job) L) (drop end report) → ⊥) → p ≡ end → Filing job report L end (Astray p)
+-- What belongs behind a reason stands there, or does not, and that place is at fault.
+pub data Filing (job report : List ℕ) (L : List ℕ) (end : ℕ) : Result ℕ ℕ → Type 0 where
+  stood : {g : List ℕ} {p : ℕ} → Filed (matter_in job) L g → Holds report end g → p ≡ end + length g → Filing job report L end (Ok p)
+  missing : {p : ℕ} → (Stands (Filed (matter_in job) L) (drop end report) → ⊥) → p ≡ end → Filing job report L end (Err p)
 
 -- So for the list whose numbers stand from a place up to another; only where reasons are looked for has the table changed.
-pub record Sheeted (job report w w' : List ℕ) (from end : ℕ) (answer : Passed) : Type 0 where
+pub record Sheeted (job report w w' : List ℕ) (from end : ℕ) (answer : Result ℕ ℕ) : Type 0 where
   pub kept : Within scratch w w'
   pub right : (L : List ℕ) → from + 2 * length L ≡ end → Holds report from (numbers L) → Filing job report L end answer
-
--- A reason was found, or none.
-pub record Reasoning (job report w : List ℕ) (sheeted : Bool) (at front : ℕ) (passed : Passed) : Type 0 where
-  pub edition : (head_in job).sheeted ≡ sheeted
-  pub behind : (end : ℕ) → passed ≡ To end → Behind job report w (at + front) end
-
--- The sheets were looked for where a reason was found.
-pub record Turned (job report w w' : List ℕ) (from : ℕ) (passed answer : Passed) : Type 0 where
-  pub kept : Within scratch w w'
-  pub none : passed ≡ Wrong → answer ≡ Wrong
-  pub some : (end : ℕ) → passed ≡ To end → (L : List ℕ) → from + 2 * length L ≡ end → Holds report from (numbers L) → Filing job report L end answer

@@ -2,50 +2,47 @@
 // report_numbers, answer_ask and sheets_field.
 #![tactic(auto)]
 
-ghost use Rattle.std.specs.Prelude.{◌≡◌, true, ◌+◌};
+ghost use Rattle.std.specs.Prelude.{◌≡◌, true};
 ghost use Rattle.job_field.specs.Reading.{head_in};
-ghost use Rattle.judge_sheets.specs.Behind.{Behind, Sheeted, Reasoning, Turned};
+ghost use Rattle.judge_sheets.specs.Behind.{Behind, Sheeted};
 
-use answer_ask::Passed;
 use report_numbers::read_reason;
 use sheets_field::is_sheets;
 
-// Whether the sheets of a reason whose numbers stand from a place up to another stand behind it: then the place behind them.
-fn filed(job: &[u8], report: &[u8], from: usize, end: usize, work: &mut [u16]) -> Passed
+// Whether the sheets of a reason whose numbers stand from a place up to another stand behind it: then the place behind them, and otherwise the place where they should.
+fn filed(
+    job: &[u8],
+    report: &[u8],
+    from: usize,
+    end: usize,
+    work: &mut [u16],
+) -> Result<usize, usize>
     requires { Behind job.now report.now work.old from end × ((head_in job.now).sheeted ≡ true) }
     ensures { Sheeted job.now report.now work.old work.new from end result }
 {
     let count = (end - from) / 2;
     read_reason(report, from, work, count);
-    let p = is_sheets(job, report, end, work, count);
-    if p == 0 {
-        return Passed::Astray(end);
+    match is_sheets(job, report, end, work, count) {
+        Some(p) => Ok(p),
+        None => Err(end),
     }
-    Passed::To(p)
 }
 
-// Where a reason was found at a place, so many bytes before its numbers, the sheets behind it are looked for.
+// Whether what belongs behind such a reason stands there: its sheets in edition 2, and nothing otherwise.
 pub fn sheets_behind(
-    passed: Passed,
     job: &[u8],
     report: &[u8],
-    at: usize,
-    front: usize,
+    from: usize,
+    end: usize,
     work: &mut [u16],
     sheeted: bool,
-) -> Passed
-    requires { Reasoning job.now report.now work.old sheeted at front passed }
-    ensures { Turned job.now report.now work.old work.new (at + front) passed result }
+) -> Result<usize, usize>
+    requires { Behind job.now report.now work.old from end × ((head_in job.now).sheeted ≡ sheeted) }
+    ensures { Sheeted job.now report.now work.old work.new from end result }
 {
-    match passed {
-        Passed::To(end) => {
-            if sheeted {
-                filed(job, report, at + front, end, work)
-            } else {
-                Passed::To(end)
-            }
-        }
-        Passed::Wrong => Passed::Wrong,
-        Passed::Astray(p) => Passed::Astray(p),
+    if sheeted {
+        filed(job, report, from, end, work)
+    } else {
+        Ok(end)
     }
 }

@@ -29,13 +29,11 @@ fn label_all(work: &mut [u16], size: usize, age: usize)
     requires { Forested work.old × (size ≤ most_tags) × (age ≤ most_tags) }
     ensures { Scanned work.old work.new size age }
 {
-    let mut i: usize = 0;
-    while i < size {
+    for i in 0..size {
         let x = table::tag_at(i);
         let l = next_label(work, age, x);
         table::put_label(work, x, l);
         table::put_seat(work, x, x);
-        i += 1;
     }
 }
 
@@ -44,9 +42,7 @@ pub fn seat_units(work: &mut [u16], size: usize, unit: usize)
     requires { Seatable work.old size unit }
     ensures { Seated work.old work.new size unit }
 {
-    let mut i = size;
-    while unit < i {
-        i -= 1;
+    for i in (unit..size).rev() {
         let x = table::tag_at(i);
         let l = table::label(work, x);
         table::put_seat(work, l, x);
@@ -71,13 +67,6 @@ pub fn leader_of(work: &[u16], x: Tag) -> Tag
     table::seat(work, table::label(work, x))
 }
 
-// Two leaders.
-#[derive(Clone, Copy)]
-pub struct Pair {
-    pub one: Tag,
-    pub other: Tag,
-}
-
 // The leaders of two tags by the first `before` records. Where no tag is a unit the links tell them, and nothing is written.
 pub fn leaders(
     work: &mut [u16],
@@ -87,20 +76,14 @@ pub fn leaders(
     before: usize,
     s: Tag,
     t: Tag,
-) -> Pair
+) -> (Tag, Tag)
     requires { Leadable work.old size unit joins × (s.0 < size) × (t.0 < size) }
-    ensures { Leaders work.old work.new size unit joins before s.0 t.0 result.one.0 result.other.0 }
+    ensures { Leaders work.old work.new size unit joins before s.0 t.0 result.0.0 result.1.0 }
 {
     if unit < size {
         lead(work, size, unit, joins, before);
-        return Pair {
-            one: leader_of(work, s),
-            other: leader_of(work, t),
-        };
+        return (leader_of(work, s), leader_of(work, t));
     }
     let age = age_after(work, joins, before);
-    Pair {
-        one: leader(work, age, s),
-        other: leader(work, age, t),
-    }
+    (leader(work, age, s), leader(work, age, t))
 }

@@ -3,3 +3,4 @@ pub mod Adding
 pub mod Waking
 pub mod Busy
 pub mod Filing
+pub mod Pace

@@ -12,9 +12,10 @@ ghost use Rattle.list_rings.specs.Links.{Ringed};
 ghost use Rattle.list_add.specs.Waking.{Listed, Falling, Woken, Awake, Roused, Legible, Match, Sought, Around};
 ghost use Rattle.list_add.specs.Filing.{Listing, Filing, Wiped, Begun};
 ghost use Rattle.list_add.specs.Adding.{Adding, Added};
-ghost use Rattle.list_add.specs.Busy.{InSet, Busy, Went, Fits, Turned, Twinned, rank};
+ghost use Rattle.list_add.specs.Busy.{InSet, Busy, Went, Fits, Turned, Twinned};
+ghost use Rattle.list_add.specs.Pace.{Underway, Forward};
 
-use meaning::{RecordNo, Tag};
+use meaning::{NO_RECORD, RecordNo, Tag};
 
 // Where the queue ends.
 const END: usize = table::QUEUE + table::FRONT;
@@ -61,7 +62,7 @@ fn wake_class(work: &mut [u16], x: Tag, last: usize) -> usize
 {
     let mut z = table::member(work, x);
     let mut made = last;
-    while !z.is(x) {
+    while z != x {
         made = wake_tag(work, z, made);
         z = table::member(work, z);
     }
@@ -80,11 +81,11 @@ fn matches(work: &[u16], i: usize, a: Tag, c: Tag) -> bool
     let x = table::left(work, r);
     let y = table::right(work, r);
     let s = table::label(work, x);
-    if !s.is(a) {
+    if s != a {
         return false;
     }
     let t = table::label(work, y);
-    t.is(c)
+    t == c
 }
 
 // A place that matches, among the uses of z.
@@ -108,7 +109,7 @@ fn seek_class(work: &[u16], second: bool, x: Tag, a: Tag, c: Tag) -> usize
     ensures { Sought work.now second (Around work.now x.0) a.0 c.0 result }
 {
     let mut z = table::member(work, x);
-    while !z.is(x) {
+    while z != x {
         let p = seek_uses(work, second, z, a, c);
         if p != 0 {
             return p;
@@ -136,8 +137,8 @@ pub struct Pace {
 
 // The class of x goes into that of y, and the applications that use it wait.
 fn absorb(work: &mut [u16], t: Task, s: Pace, x: Tag, y: Tag) -> Pace
-    requires { Busy t.size t.len t.n work.old s.first s.last s.joins × Apart most_tags (label_of work.old) x.0 y.0 × Follows (InSet t.len t.n work.old) x.0 y.0 }
-    ensures { Busy t.size t.len t.n work.new result.first result.last result.joins × Went work.old work.new s.joins result.joins × (rank work.new result.joins < rank work.old s.joins) × (label_of work.new x.0 ≡ label_of work.new y.0) }
+    requires { Underway t s work.old × Apart most_tags (label_of work.old) x.0 y.0 × Follows (InSet t.len t.n work.old) x.0 y.0 }
+    ensures { Forward t s work.old work.new result × (label_of work.new x.0 ≡ label_of work.new y.0) }
 {
     let last = wake_class(work, x, s.last);
     list_rings::join(work, x, y, s.joins);
@@ -150,8 +151,8 @@ fn absorb(work: &mut [u16], t: Task, s: Pace, x: Tag, y: Tag) -> Pace
 
 // The lighter of the two classes goes into the other.
 fn unite(work: &mut [u16], t: Task, s: Pace, x: Tag, y: Tag) -> Pace
-    requires { Busy t.size t.len t.n work.old s.first s.last s.joins × Apart most_tags (label_of work.old) x.0 y.0 × Follows (InSet t.len t.n work.old) x.0 y.0 }
-    ensures { Busy t.size t.len t.n work.new result.first result.last result.joins × Went work.old work.new s.joins result.joins × (rank work.new result.joins < rank work.old s.joins) × (label_of work.new x.0 ≡ label_of work.new y.0) }
+    requires { Underway t s work.old × Apart most_tags (label_of work.old) x.0 y.0 × Follows (InSet t.len t.n work.old) x.0 y.0 }
+    ensures { Forward t s work.old work.new result × (label_of work.new x.0 ≡ label_of work.new y.0) }
 {
     if list_rings::lighter(work, x, y) {
         absorb(work, t, s, x, y)
@@ -162,8 +163,8 @@ fn unite(work: &mut [u16], t: Task, s: Pace, x: Tag, y: Tag) -> Pace
 
 // The first of this round's list does not wait any longer.
 fn pop(work: &mut [u16], t: Task, s: Pace) -> Pace
-    requires { Busy t.size t.len t.n work.old s.first s.last s.joins × (0 < s.first) × Fits work.old (s.first - 1) }
-    ensures { Busy t.size t.len t.n work.new result.first result.last result.joins × Went work.old work.new s.joins result.joins × (rank work.new result.joins < rank work.old s.joins) }
+    requires { Underway t s work.old × (0 < s.first) × Fits work.old (s.first - 1) }
+    ensures { Forward t s work.old work.new result }
 {
     let j = s.first - 1;
     let v = table::queued(work, j);
@@ -191,7 +192,7 @@ fn turn(s: Pace) -> Pace
 
 // An application that is in, does not wait, and has the argument labels of place j: one more than its place, or 0.
 fn twin(work: &[u16], t: Task, s: Pace, j: usize) -> usize
-    requires { Busy t.size t.len t.n work.now s.first s.last s.joins × (s.first ≡ suc j) }
+    requires { Underway t s work.now × (s.first ≡ suc j) }
     ensures { Twinned work.now j result }
 {
     let r = table::placed(work, j);
@@ -208,8 +209,8 @@ fn twin(work: &[u16], t: Task, s: Pace, j: usize) -> usize
 
 // The first that waits meets the one that the link p leads to: their results are joined, unless they have one label.
 fn meet(work: &mut [u16], t: Task, s: Pace, j: usize, p: usize) -> Pace
-    requires { Busy t.size t.len t.n work.old s.first s.last s.joins × (s.first ≡ suc j) × Twinned work.old j p × (0 < p) }
-    ensures { Busy t.size t.len t.n work.new result.first result.last result.joins × Went work.old work.new s.joins result.joins × (rank work.new result.joins < rank work.old s.joins) }
+    requires { Underway t s work.old × (s.first ≡ suc j) × Twinned work.old j p × (0 < p) }
+    ensures { Forward t s work.old work.new result }
 {
     let r = table::placed(work, j);
     let q = table::placed(work, p - 1);
@@ -217,7 +218,7 @@ fn meet(work: &mut [u16], t: Task, s: Pace, j: usize, p: usize) -> Pace
     let y = table::result(work, q);
     let u = table::label(work, x);
     let v = table::label(work, y);
-    if u.is(v) {
+    if u == v {
         return pop(work, t, s);
     }
     unite(work, t, s, u, v)
@@ -225,8 +226,8 @@ fn meet(work: &mut [u16], t: Task, s: Pace, j: usize, p: usize) -> Pace
 
 // The first that waits is looked up.
 fn step(work: &mut [u16], t: Task, s: Pace) -> Pace
-    requires { Busy t.size t.len t.n work.old s.first s.last s.joins × (0 < s.first) }
-    ensures { Busy t.size t.len t.n work.new result.first result.last result.joins × Went work.old work.new s.joins result.joins × (rank work.new result.joins < rank work.old s.joins) }
+    requires { Underway t s work.old × (0 < s.first) }
+    ensures { Forward t s work.old work.new result }
 {
     let j = s.first - 1;
     let p = twin(work, t, s, j);
@@ -238,7 +239,7 @@ fn step(work: &mut [u16], t: Task, s: Pace) -> Pace
 
 // Until none waits. The number of joins then.
 fn settle(work: &mut [u16], t: Task, s: Pace) -> usize
-    requires { Busy t.size t.len t.n work.old s.first s.last s.joins }
+    requires { Underway t s work.old }
     ensures { Busy t.size t.len t.n work.new 0 0 result × Went work.old work.new s.joins result }
 {
     let mut r = s;
@@ -275,7 +276,7 @@ fn add_equation(work: &mut [u16], t: Task, r: RecordNo, i: usize, k: usize) -> u
     let y = table::right(work, r);
     let a = table::label(work, x);
     let c = table::label(work, y);
-    if a.is(c) {
+    if a == c {
         return k;
     }
     let s = Pace {
@@ -293,7 +294,7 @@ fn add(work: &mut [u16], t: Task, i: usize, k: usize) -> usize
     ensures { Added t.size t.len t.n work.old work.new i (suc i) k result }
 {
     let r = table::placed(work, i);
-    if r.is_none() {
+    if r == NO_RECORD {
         return k;
     }
     if table::is_equation(work, r) {
@@ -308,10 +309,8 @@ pub fn add_each(work: &mut [u16], t: Task, lo: usize, hi: usize, k: usize) -> us
     ensures { Added t.size t.len t.n work.old work.new lo hi k result }
 {
     let mut made = k;
-    let mut i = lo;
-    while i < hi {
+    for i in lo..hi {
         made = add(work, t, i, made);
-        i += 1;
     }
     made
 }
@@ -336,10 +335,8 @@ fn file_each(work: &mut [u16], t: Task)
     requires { Filing t.size t.len t.n work.old 0 }
     ensures { Filing t.size t.len t.n work.new t.n × Within uses_part work.old work.new }
 {
-    let mut i: usize = 0;
-    while i < t.n {
+    for i in 0..t.n {
         file(work, t, i);
-        i += 1;
     }
 }
 
@@ -359,10 +356,8 @@ fn weigh_each(work: &mut [u16], t: Task)
     requires { Filing t.size t.len t.n work.old t.n }
     ensures { Within (all_of WEIGHT) work.old work.new }
 {
-    let mut i: usize = 0;
-    while i < t.n {
+    for i in 0..t.n {
         weigh(work, t, i);
-        i += 1;
     }
 }
 
@@ -371,7 +366,7 @@ fn wipe(work: &mut [u16])
     requires { Large work.old }
     ensures { Wiped work.old work.new }
 {
-    table_labels::fill(&mut work[table::ENDS..END], 0);
+    work[table::ENDS..END].fill(0);
 }
 
 // Each tag is a class of its own, no place is in, and the first n can be added.

@@ -1,22 +1,22 @@
 -- What one half's round leaves: the labels come back, so what holds before it holds after it but for what was left out. Assumes nothing.
 use Prim.Native.Nat.{ℕ, suc, ◌+◌, ◌-◌, ◌≤◌, ◌<◌}
 use native.Mathlib.Omega.{arith}
-use native.Mathlib.Decide.{ℕ_discrete, dec_lt}
+use native.Mathlib.Decide.{dec_lt}
 use mathlib.Core.Path.{◌≡◌, refl, sym, ap, ◌∙◌, fun_ext}
 use mathlib.Core.Logic.{◌≢◌, ◌⊎◌, inl, inr}
 use mathlib.Core.Bool.{Bool, true, false, true≢false}
-use mathlib.Core.List.{List}
+use mathlib.Core.List.{List, ◌++◌}
 use lib.Dec.{eqb}
-use lib.ListN.{set}
+use lib.ListN.{length, take, drop}
 use borrow.Author.Tests.{eq-eqb, eqb-true}
 use Rattle.meaning.specs.Following.{Rec, Those}
-use Rattle.meaning.specs.Joins.{put}
 use Rattle.meaning.proofs.Close.{more}
-use Rattle.meaning.proofs.Log.{put-hit, put-miss}
 use Rattle.meaning.specs.Limits.{most_tags}
 use Rattle.table.specs.Places.{ENDS, EQUATION, FRONT, LABEL, LIST, Large, MEMBER, Part, QUEUE, TRAIL, add_part, before_at, before_halved, end_at, from_to, front_size, halve_part, plain}
 use Rattle.table.specs.Map.{seen, result_of, label_of, records_in, Within, before_of, end_of, member_of, place_of, queue_of, trail_of}
-use Rattle.table.proofs.Frame.{ends-between, seen-in, seen-within, within-refl, within-trans, within_wider, within-set}
+use Rattle.table_labels.specs.Parts.{Fills}
+use Rattle.table_labels.proofs.Views.{lent-within, lent_at}
+use Rattle.table.proofs.Frame.{ends-between, seen_at, seen-past, seen-within, within-refl, within-trans, within_wider}
 use Rattle.table.proofs.Kept.{lefts, rights, results, loaded-same, records-same}
 use Rattle.list_ways.specs.Halves.{Picked, Outside, Every}
 use Rattle.list_ways.proofs.Halves.{halved_none, halved-one, halved_both}
@@ -27,31 +27,30 @@ use Rattle.list_add.specs.Adding.{Steady, Adding, Added}
 use Rattle.list_add.specs.Filing.{Listing, Begun}
 use Rattle.list_halve.specs.Halving.{Backed, Ready, Done, Blanked, Sifting, Sifted, Entailing}
 
--- Places become 0, one more at a time.
-pub blanked-start : {at lo : ℕ} (w : List ℕ) → Blanked at w w lo lo
-blanked-start w = record { kept = within-refl w; outs = λ i a b. absurd (omega arith); else = λ i o. refl }
+-- What the library leaves where a part of a region is filled with noughts.
+module _ {at lo hi : ℕ} (w w' v : List ℕ) (long : Large w) (a : at ≤ QUEUE.at) (l : lo ≤ hi) (m : hi ≤ front_size) (s : length v ≡ length (take (at + hi - (at + lo)) (drop (at + lo) w)))
+    (e : w' ≡ take (at + lo) w ++ (v ++ drop (at + hi - (at + lo)) (drop (at + lo) w))) (h : Fills v 0) where
+  abbrev size : ℕ
+  size = at + hi - (at + lo)
 
-pub blanked-more : {at lo i : ℕ} {w w₁ w₂ : List ℕ} → Large w → at ≤ QUEUE.at → lo ≤ i → i < front_size → Blanked at w w₁ lo i → w₂ ≡ set w₁ (at + i) 0 → Blanked at w w₂ lo (suc i)
-blanked-more {at} {lo} {i} {w} {w₁} {w₂} h a l m b e = record {
-  kept = rw e (within-trans b.kept (within-set (from_to at (at + front_size)) w₁ (at + i) 0 (omega arith) (omega arith)));
-  outs = λ j x y. rw here (outs j x y (ℕ_discrete j i));
-  else = λ j o. rw here (put-miss i 0 (seen (plain at front_size) w₁) j (apart j o) ∙ b.else j (out j o));
-}
-  where
-    here : seen (plain at front_size) w₂ ≡ put i 0 (seen (plain at front_size) w₁)
-    here = rw e (seen-in (plain at front_size) w₁ i 0 m (omega (arith, b.kept.size)))
+  frame : Within (from_to (at + lo) (at + lo + size)) w w'
+  frame = lent-within (at + lo) size w w' v (omega arith) s e
 
-    outs : (j : ℕ) → lo ≤ j → j < suc i → Dec (j ≡ i) → put i 0 (seen (plain at front_size) w₁) j ≡ 0
-    outs j x y (yes q) = rw q (put-hit i 0 (seen (plain at front_size) w₁))
-    outs j x y (no q) = put-miss i 0 (seen (plain at front_size) w₁) j q ∙ b.outs j x (omega arith)
+  pub blanked : Blanked at w w' lo hi
+  blanked = record { kept = within_wider (from_to at (at + front_size)) (omega arith) (omega arith) frame; outs = outs; else = λ i o. other i o (dec_lt i front_size) }
+    where
+      outs : (i : ℕ) → lo ≤ i → i < hi → seen (plain at front_size) w' i ≡ 0
+      outs i x y =
+          let q : at + i ≡ at + lo + (i - lo) = omega arith in
+          seen_at (plain at front_size) w' i (omega arith) ∙ rw q (lent_at (at + lo) size w w' v (omega arith) s e (λ j. 0) h (i - lo) (omega arith))
 
-    apart : (j : ℕ) → Outside lo (suc i) j → j ≢ i
-    apart j (inl o) q = omega arith
-    apart j (inr o) q = omega arith
+      side : (i : ℕ) → Outside lo hi i → (at + i < at + lo) ⊎ (at + lo + size ≤ at + i)
+      side i (inl o) = inl (omega arith)
+      side i (inr o) = inr (omega arith)
 
-    out : (j : ℕ) → Outside lo (suc i) j → Outside lo i j
-    out j (inl o) = inl o
-    out j (inr o) = inr (omega arith)
+      other : (i : ℕ) → Outside lo hi i → Dec (i < front_size) → seen (plain at front_size) w' i ≡ seen (plain at front_size) w i
+      other i o (yes k) = seen_at (plain at front_size) w' i k ∙ frame.same (at + i) (side i o) ∙ sym (seen_at (plain at front_size) w i k)
+      other i o (no k) = seen-past (plain at front_size) w' i (omega arith) ∙ sym (seen-past (plain at front_size) w i (omega arith))
 
 -- Regions that a frame leaves.
 module _ {r : Part} {w w' : List ℕ} (f : Within r w w') where

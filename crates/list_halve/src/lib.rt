@@ -2,32 +2,21 @@
 // is in, the rest goes. What came in goes out again, and the labels are as they were. Document 01, "Reasons". Rests on list_add and list_rings.
 #![tactic(auto)]
 
-ghost use Rattle.std.specs.Prelude.{◌≡◌, ◌+◌, ◌≤◌, ◌<◌, set};
-ghost use Rattle.meaning.specs.Limits.{named_numbers};
+ghost use Rattle.std.specs.Prelude.{◌+◌, ◌≤◌, ◌<◌};
 ghost use Rattle.table.specs.Places.{Large, QUEUE, front_size};
 ghost use Rattle.list_rings.specs.Links.{Standing};
-ghost use Rattle.list_add.specs.Adding.{Adding, Added};
 ghost use Rattle.list_add.specs.Filing.{Listing};
 ghost use Rattle.list_halve.specs.Halving.{Backed, Ready, Done, Blanked, Sifting, Sifted, Entailing};
 
 use list_add::Task;
 use meaning::Tag;
 
-// What is tried: whether the tags s and t are equal by fewer than the n records of the list, of those 1 to `len` that the table holds of `size` tags.
+// What is tried: whether the tags s and t are equal by the records of the list, or by fewer of them.
 #[derive(Clone, Copy)]
 pub struct Trial {
-    pub size: usize,
-    pub len: usize,
-    pub n: usize,
+    pub task: Task,
     pub s: Tag,
     pub t: Tag,
-}
-
-fn blank(work: &mut [u16], region: usize, x: usize)
-    requires { Large work.old × (region + x < named_numbers) }
-    ensures { work.new ≡ set work.old (region + x) 0 }
-{
-    work[region + x] = 0;
 }
 
 // The places lo..hi of a region by place become 0.
@@ -35,11 +24,7 @@ fn blank_each(work: &mut [u16], region: usize, lo: usize, hi: usize)
     requires { Large work.old × (region ≤ QUEUE.at) × (lo ≤ hi) × (hi ≤ front_size) }
     ensures { Blanked region work.old work.new lo hi }
 {
-    let mut i = lo;
-    while i < hi {
-        blank(work, region, i);
-        i += 1;
-    }
+    work[region + lo..region + hi].fill(0);
 }
 
 // The places lo..hi go out again, and the joins from number k on are taken back, of j that were made.
@@ -51,19 +36,6 @@ fn go_back(work: &mut [u16], lo: usize, hi: usize, k: usize, j: usize)
     list_rings::back(work, k, j);
 }
 
-// The records of the places lo..hi come in. The number of joins then.
-fn add_each(work: &mut [u16], q: Trial, lo: usize, hi: usize, k: usize) -> usize
-    requires { Adding q.size q.len q.n work.old lo hi k }
-    ensures { Added q.size q.len q.n work.old work.new lo hi k result }
-{
-    let t = Task {
-        size: q.size,
-        len: q.len,
-        n: q.n,
-    };
-    list_add::add_each(work, t, lo, hi, k)
-}
-
 fn middle(lo: usize, hi: usize) -> usize
     requires { (lo + 1 < hi) × (hi ≤ front_size) }
     ensures { (lo < result) × (result < hi) }
@@ -73,8 +45,8 @@ fn middle(lo: usize, hi: usize) -> usize
 
 // Leaves out the spare records of the places lo..hi.
 fn halve(work: &mut [u16], q: Trial, lo: usize, hi: usize, k: usize)
-    requires { Ready q.size q.len q.n q.s.0 q.t.0 work.old lo hi k }
-    ensures { Done q.len q.n q.s.0 q.t.0 work.old work.new lo hi k }
+    requires { Ready q.task.size q.task.len q.task.n q.s.0 q.t.0 work.old lo hi k }
+    ensures { Done q.task.len q.task.n q.s.0 q.t.0 work.old work.new lo hi k }
 {
     if table_labels::level(work, q.s, q.t) {
         blank_each(work, table::LIST, lo, hi);
@@ -82,10 +54,10 @@ fn halve(work: &mut [u16], q: Trial, lo: usize, hi: usize, k: usize)
     }
     if lo + 1 < hi {
         let mid = middle(lo, hi);
-        let i = add_each(work, q, lo, mid, k);
+        let i = list_add::add_each(work, q.task, lo, mid, k);
         halve(work, q, mid, hi, i);
         go_back(work, lo, mid, k, i);
-        let j = add_each(work, q, mid, hi, k);
+        let j = list_add::add_each(work, q.task, mid, hi, k);
         halve(work, q, lo, mid, j);
         go_back(work, mid, hi, k, j);
     }
@@ -93,24 +65,19 @@ fn halve(work: &mut [u16], q: Trial, lo: usize, hi: usize, k: usize)
 
 // Leaves out the spare records of all n places, from any table that lists them.
 pub fn sift(work: &mut [u16], q: Trial)
-    requires { Sifting q.size q.len q.n q.s.0 q.t.0 work.old }
-    ensures { Sifted q.len q.n q.s.0 q.t.0 work.old work.new }
+    requires { Sifting q.task.size q.task.len q.task.n q.s.0 q.t.0 work.old }
+    ensures { Sifted q.task.len q.task.n q.s.0 q.t.0 work.old work.new }
 {
-    let t = Task {
-        size: q.size,
-        len: q.len,
-        n: q.n,
-    };
-    list_add::begin(work, t);
-    halve(work, q, 0, q.n, 0);
+    list_add::begin(work, q.task);
+    halve(work, q, 0, q.task.n, 0);
 }
 
-// Whether s and u are equal by exactly the records of the n places.
-pub fn entails(work: &mut [u16], t: Task, s: Tag, u: Tag) -> bool
-    requires { Listing t.size t.len t.n work.old × (s.0 < t.size) × (u.0 < t.size) }
-    ensures { Entailing t.len t.n s.0 u.0 work.old work.new result }
+// Whether s and t are equal by exactly the records of the n places.
+pub fn entails(work: &mut [u16], q: Trial) -> bool
+    requires { Listing q.task.size q.task.len q.task.n work.old × (q.s.0 < q.task.size) × (q.t.0 < q.task.size) }
+    ensures { Entailing q.task.len q.task.n q.s.0 q.t.0 work.old work.new result }
 {
-    list_add::begin(work, t);
-    list_add::add_each(work, t, 0, t.n, 0);
-    table_labels::level(work, s, u)
+    list_add::begin(work, q.task);
+    list_add::add_each(work, q.task, 0, q.task.n, 0);
+    table_labels::level(work, q.s, q.t)
 }

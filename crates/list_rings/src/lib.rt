@@ -17,7 +17,7 @@ fn name(work: &mut [u16], x: Tag, v: Tag)
     ensures { Named work.old work.new x.0 v.0 }
 {
     let mut z = table::member(work, x);
-    while !z.is(x) {
+    while z != x {
         table::put_label(work, z, v);
         z = table::member(work, z);
     }
@@ -88,10 +88,8 @@ pub fn scatter(work: &mut [u16])
     requires { Large work.old }
     ensures { Scattered work.old work.new }
 {
-    let mut x: usize = 0;
-    while x < meaning::MOST_TAGS {
+    for x in 0..meaning::MOST_TAGS {
         part_off(work, table::tag_at(x));
-        x += 1;
     }
 }
 
@@ -121,9 +119,7 @@ pub fn back(work: &mut [u16], k: usize, j: usize)
     requires { Standing work.old j × (k ≤ j) }
     ensures { Returned work.old work.new k j }
 {
-    let mut i = j;
-    while k < i {
-        i -= 1;
+    for i in (k..j).rev() {
         part(work, i);
     }
 }

@@ -1,12 +1,12 @@
 // The two numbers of document 01, "Tags, records, following": both fill two bytes and neither may stand for the other. Their fields are
-// private, so that the compiler keeps them apart: a number is opened by `number` and `place` and closed by `of`, and .ci/openings lists the crates
+// private, so that the compiler keeps them apart: a number is opened by `number` and `place` and closed by `of`, and compared by what is derived; .ci/openings lists the crates
 // that may. What they mean, and the mathematics of it, is in specs/ and proofs/. Rests on nothing.
 #![tactic(auto)]
 
-ghost use Rattle.std.specs.Prelude.{◌≡◌, eqb, ltb};
+ghost use Rattle.std.specs.Prelude.{◌≡◌, ltb};
 
 // The number of a tag: a unit, a probe or a scaling, 0 to N-1.
-#[derive(Clone, Copy)]
+#[derive(Clone, Copy, Debug, PartialEq, Eq, PartialOrd, Ord)]
 pub struct Tag(u16);
 
 // What stands for a tag in a place that is blank.
@@ -33,19 +33,7 @@ impl Tag {
         self.0 as usize
     }
 
-    // Whether it is the other one, is before it, or is one of so many.
-    pub fn is(self, other: Tag) -> bool
-        ensures { result ≡ eqb self.0 other.0 }
-    {
-        self.0 == other.0
-    }
-
-    pub fn below(self, other: Tag) -> bool
-        ensures { result ≡ ltb self.0 other.0 }
-    {
-        self.0 < other.0
-    }
-
+    // Whether it is one of so many.
     pub fn is_of(self, size: u16) -> bool
         ensures { result ≡ ltb self.0 size }
     {
@@ -54,7 +42,7 @@ impl Tag {
 }
 
 // The number of a record: a line of the job, from 1. 0 is no record.
-#[derive(Clone, Copy)]
+#[derive(Clone, Copy, Debug, PartialEq, Eq, PartialOrd, Ord)]
 pub struct RecordNo(u16);
 
 pub const NO_RECORD: RecordNo = RecordNo(0);
@@ -78,19 +66,6 @@ impl RecordNo {
         ensures { result ≡ self.0 }
     {
         self.0 as usize
-    }
-
-    // Whether it is the other one, or none.
-    pub fn is(self, other: RecordNo) -> bool
-        ensures { result ≡ eqb self.0 other.0 }
-    {
-        self.0 == other.0
-    }
-
-    pub fn is_none(self) -> bool
-        ensures { result ≡ eqb self.0 0 }
-    {
-        self.0 == 0
     }
 }
 

@@ -159,44 +159,36 @@ module _ {w : List ℕ} {top : ℕ} (f : Forested w) (under : top ≤ most_tags)
   there : {u c j z b : ℕ} → Last p g top u c z j b → Climbed p g top u c z j
   there h = rw h.on at (climb-on p g f.links top under h.climbed)
 
+  -- Either of two climbs may be named first.
+  beside-flip : {s t x y newest : ℕ} → Beside w top s t x y newest → Beside w top t s y x newest
+  beside-flip h = record { x-tag = h.y-tag; y-tag = h.x-tag; d = h.e; e = h.d; k = h.k; one = h.other; other = h.one; met = λ q. newest-flip p g f.links top under (h.met (sym q)) }
+
+  -- The first is the deeper one, so that it alone is lifted.
+  beside-deeper : {s t d e k x y n m newest : ℕ} → DepthIn w top t e → Lifted w top s d k x n → Lifted w top t e k y m → k < d → e ≡ k → newest ≡ max n m → Beside w top s t x y newest
+  beside-deeper {s} {t} {d} {e} {k} {x} {y} {n} {m} {newest} E L M l j q =
+      let h = L.last l in
+      let r = M.still (omega arith) in
+      let i : newest ≡ n = omega (arith, r.1) in
+      let E' : DepthIn w top t k = rw j at E in
+      record {
+        x-tag = L.tag;
+        y-tag = M.tag;
+        d = d;
+        e = k;
+        k = k;
+        one = there h;
+        other = rw r.0 (climb-begin p g f.links top under E');
+        met = λ o. let h' : Last p g top s d t k n = rw (o ∙ r.0) at h in rw i (meet_one p g f.links top under h' E');
+      }
+
   beside-start : {s t d e k x y n m newest : ℕ} → s ≢ t → DepthIn w top s d → DepthIn w top t e → k ≤ d → k ≤ e → (k ≡ d) ⊎ (k ≡ e) → Lifted w top s d k x n → Lifted w top t e k y m → newest ≡ max n m
       → Beside w top s t x y newest
   beside-start {s} {t} {d} {e} {k} {x} {y} {n} {m} {newest} apart D E a b z L M q = go (dec_lt k d) (dec_lt k e)
     where
       go : Dec (k < d) → Dec (k < e) → Beside w top s t x y newest
       go (yes l) (yes l') = elim z [ inl i ↦ absurd (omega arith) | inr i ↦ absurd (omega arith) ]
-      go (yes l) (no l') =
-          let h = L.last l in
-          let r = M.still (omega arith) in
-          let i : newest ≡ n = omega (arith, r.1) in
-          let j : e ≡ k = omega arith in
-          let E' : DepthIn w top t k = rw j at E in
-          record {
-            x-tag = L.tag;
-            y-tag = M.tag;
-            d = d;
-            e = k;
-            k = k;
-            one = there h;
-            other = rw r.0 (climb-begin p g f.links top under E');
-            met = λ o. let h' : Last p g top s d t k n = rw (o ∙ r.0) at h in rw i (meet_one p g f.links top under h' E');
-          }
-      go (no l) (yes l') =
-          let h = M.last l' in
-          let r = L.still (omega arith) in
-          let i : newest ≡ m = omega (arith, r.1) in
-          let j : d ≡ k = omega arith in
-          let D' : DepthIn w top s k = rw j at D in
-          record {
-            x-tag = L.tag;
-            y-tag = M.tag;
-            d = k;
-            e = e;
-            k = k;
-            one = rw r.0 (climb-begin p g f.links top under D');
-            other = there h;
-            met = λ o. let h' : Last p g top t e s k m = rw (sym o ∙ r.0) at h in rw i (newest-flip p g f.links top under (meet_one p g f.links top under h' D'));
-          }
+      go (yes l) (no l') = beside-deeper E L M l (omega arith) q
+      go (no l) (yes l') = beside-flip (beside-deeper D M L l' (omega arith) (omega arith))
       go (no l) (no l') =
           let r = L.still (omega arith) in
           let r' = M.still (omega arith) in

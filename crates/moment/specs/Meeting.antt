@@ -1,6 +1,6 @@
 -- When two tags came together, read off the links of the table. Document 01, "Reasons": the first k such that equality follows.
 -- Assumes nothing.
-use Rattle.std.specs.Prelude.{ℕ, suc, ◌≤◌, ◌<◌, ◌≡◌, ◌≢◌, List}
+use Rattle.std.specs.Prelude.{ℕ, suc, ◌≤◌, ◌<◌, ◌≡◌, ◌≢◌, List, Option, Some, None}
 use Rattle.meaning.specs.Forest.{root, Links}
 use Rattle.meaning.specs.Limits.{most_tags}
 use Rattle.table.specs.Map.{parent_of, age_of}
@@ -21,3 +21,8 @@ pub record Met (w : List ℕ) (s t b : ℕ) : Type 0 where
   pub most : b ≤ most_tags
   pub joined : b < most_tags → leader_at w (suc b) s ≡ leader_at w (suc b) t
   pub apart : (a : ℕ) → a ≤ b → leader_at w a s ≢ leader_at w a t
+
+-- What is answered of s and t: that age, or none where it is 1,000.
+abbrev pub MetAs : List ℕ → ℕ → ℕ → Option ℕ → Type 0
+MetAs w s t (Some b) = Met w s t b × (b < most_tags)
+MetAs w s t None = Met w s t most_tags

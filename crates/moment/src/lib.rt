@@ -2,12 +2,12 @@
 // those who test an answer have in common. Document 01, "Reasons" and "The job and the report". Rests on meaning and table.
 #![tactic(auto)]
 
-ghost use Rattle.std.specs.Prelude.{◌≡◌, ◌≢◌, ℕ, max, ◌≤◌, ◌<◌, length};
+ghost use Rattle.std.specs.Prelude.{◌≡◌, ◌≢◌, ℕ, ◌≤◌, ◌<◌, length};
 ghost use Rattle.meaning.specs.Limits.{most_tags};
 ghost use Rattle.table.specs.Map.{when_of};
 ghost use Rattle.table.specs.Past.{age_by};
 ghost use Rattle.table.specs.Places.{Large};
-ghost use Rattle.moment.specs.Meeting.{leader_at, Forested, Met};
+ghost use Rattle.moment.specs.Meeting.{leader_at, Forested, MetAs};
 ghost use Rattle.moment.specs.Deep.{Compared, Deeper, Raised, Paired, MetBefore, Ended};
 
 use meaning::Tag;
@@ -29,12 +29,10 @@ pub fn age_after(work: &[u16], joins: usize, before: usize) -> usize
     ensures { result ≡ age_by work.now joins before }
 {
     let mut n: usize = 0;
-    let mut a: usize = 0;
-    while a < joins {
+    for a in 0..joins {
         if made(work, a) <= before {
             n += 1;
         }
-        a += 1;
     }
     n
 }
@@ -52,30 +50,23 @@ pub fn leader(work: &[u16], age: usize, x: Tag) -> Tag
     y
 }
 
-// Where two climbs stand.
-#[derive(Clone, Copy)]
-pub struct Abreast {
-    pub x: Tag,
-    pub y: Tag,
-}
-
 // The depths of two tags, held to each other: both climb, link by link, until one has no link older than `top` left. What the other has left
-// is by how much it is deeper.
-fn climb_abreast(work: &[u16], top: usize, s: Tag, t: Tag) -> Abreast
+// is by how much it is deeper. Where the two climbs stand.
+fn climb_abreast(work: &[u16], top: usize, s: Tag, t: Tag) -> (Tag, Tag)
     requires forested { Forested work.now }
     requires top_le_most_tags { (top ≤ most_tags) × (s.0 < most_tags) × (t.0 < most_tags) }
-    ensures { Compared work.now top s.0 t.0 result.x.0 result.y.0 }
+    ensures { Compared work.now top s.0 t.0 result.0.0 result.1.0 }
 {
     let mut x = s;
     let mut y = t;
     while table::age(work, x) < top {
         if table::age(work, y) >= top {
-            return Abreast { x: x, y: y };
+            return (x, y);
         }
         x = table::parent(work, x);
         y = table::parent(work, y);
     }
-    Abreast { x: x, y: y }
+    (x, y)
 }
 
 // Where a climb stands, and the age of the last link it took, or 0.
@@ -99,20 +90,7 @@ fn lift(work: &[u16], top: usize, s: Tag, left: Tag) -> Climb
         newest = table::age(work, x);
         x = table::parent(work, x);
     }
-    Climb {
-        at: x,
-        newest: newest,
-    }
-}
-
-// The greater of two numbers.
-fn greater(a: usize, b: usize) -> usize
-    ensures { result ≡ max a b }
-{
-    if a < b {
-        return b;
-    }
-    a
+    Climb { at: x, newest }
 }
 
 // Two climbs that stand at one depth go on together until they meet: the age of the newest link on the way, or `top` where they do not meet.
@@ -124,13 +102,13 @@ fn together(work: &[u16], top: usize, from: Tag, to: Tag, last: usize) -> usize
     let mut x = from;
     let mut y = to;
     let mut newest = last;
-    while !x.is(y) {
+    while x != y {
         let a = table::age(work, x);
         let b = table::age(work, y);
         if a >= top {
             return top;
         }
-        newest = greater(a, b);
+        newest = a.max(b);
         x = table::parent(work, x);
         y = table::parent(work, y);
     }
@@ -138,26 +116,32 @@ fn together(work: &[u16], top: usize, from: Tag, to: Tag, last: usize) -> usize
 }
 
 // The age of the newest join between two tags among those older than `top`, or `top` where none of these brought them together: the deeper
-// of the two is lifted to the depth of the other, then both climb until they meet. It needs no marks.
+// of the two is lifted to the depth of the other, then both climb until they meet. It needs no marks. `top` and no Option: who asks below an age
+// knows that there is one, and would have a branch for none that it cannot take.
 pub fn met_before(work: &[u16], top: usize, s: Tag, t: Tag) -> usize
     requires forested { Forested work.now }
     requires top_le_most_tags { (top ≤ most_tags) × (s.0 < most_tags) × (t.0 < most_tags) × (s.0 ≢ t.0) }
     ensures { MetBefore work.now top s.0 t.0 result }
 {
-    let r = climb_abreast(work, top, s, t);
-    let a = lift(work, top, s, r.x);
-    let b = lift(work, top, t, r.y);
-    let last = greater(a.newest, b.newest);
+    let (x, y) = climb_abreast(work, top, s, t);
+    let a = lift(work, top, s, x);
+    let b = lift(work, top, t, y);
+    let last = a.newest.max(b.newest);
     together(work, top, a.at, b.at, last)
 }
 
-// The age of the newest join between two tags, or 1,000 where no join brought them together.
-pub fn met(work: &[u16], s: Tag, t: Tag) -> usize
+// The age of the newest join between two tags, if a join brought them together.
+pub fn met(work: &[u16], s: Tag, t: Tag) -> Option<usize>
     requires forested { Forested work.now }
     requires s_lt_most_tags { (s.0 < most_tags) × (t.0 < most_tags) × (s.0 ≢ t.0) }
-    ensures { Met work.now s.0 t.0 result }
+    ensures { MetAs work.now s.0 t.0 result }
 {
-    met_before(work, meaning::MOST_TAGS, s, t)
+    let b = met_before(work, meaning::MOST_TAGS, s, t);
+    if b < meaning::MOST_TAGS {
+        Some(b)
+    } else {
+        None
+    }
 }
 
 // What is asked.

@@ -3,10 +3,11 @@
 use Prim.Native.Nat.{ℕ, ◌+◌, ◌≤◌, ◌<◌}
 use native.Mathlib.Omega.{arith}
 use native.Mathlib.Decide.{dec_le}
-use mathlib.Core.Path.{◌≡◌}
+use mathlib.Core.Path.{◌≡◌, refl}
 use mathlib.Core.List.{List}
 use lib.ListN.{length}
 use Rattle.meaning.specs.Following.{Rec, Follows, same, UpTo}
+use Rattle.meaning.specs.Limits.{most_tags}
 use Rattle.meaning.specs.Reasons.{FirstAt}
 use Rattle.meaning.proofs.Close.{more_of}
 use Rattle.table.specs.Map.{when_of, records_in}
@@ -20,13 +21,13 @@ module _ {N len n : ℕ} {w : List ℕ} (P : Past N len w n) (R s t : ℕ) (l : 
   pub came_same : s ≡ t → Came (records_in len w) R s t 0 × (0 < 65536)
   came_same e = (rw e (record { then = λ _. record { then = same; before = λ n m. absurd (omega arith) }; never = λ m. absurd (omega arith) }), omega arith)
 
-  pub came-never : (b : ℕ) → Met w s t b → 1000 ≤ b → Came (records_in len w) R s t (R + 1) × (R + 1 < 65536)
-  came-never b M h = (record { then = λ m. absurd (omega arith); never = λ m. met-never P M R l (omega (arith, M.most)) }, omega (arith, P.loaded.most))
+  pub came-never : Met w s t most_tags → Came (records_in len w) R s t (R + 1) × (R + 1 < 65536)
+  came-never M = (record { then = λ m. absurd (omega arith); never = λ m. met-never P M R l refl }, omega (arith, P.loaded.most))
 
-  pub came-met : (b k : ℕ) → Met w s t b → b < 1000 → k ≡ when_of w b → Came (records_in len w) R s t k × (k < 65536)
-  came-met b k M h e =
-      let j = met-join P M h in
-      (rw e (record { then = λ m. met-first P M j; never = met-later P M R l j }), omega (arith, e, (P.made b j).1, P.loaded.most))
+  pub came-met : (b k : ℕ) → Met w s t b × (b < most_tags) → k ≡ when_of w b → Came (records_in len w) R s t k × (k < 65536)
+  came-met b k M e =
+      let j = met-join P M.0 M.1 in
+      (rw e (record { then = λ m. met-first P M.0 j; never = met-later P M.0 R l j }), omega (arith, e, (P.made b j).1, P.loaded.most))
 
 -- What the first k of all records tells of a moment.
 module _ {rs : List Rec} {s t m : ℕ} (c : Came rs (length rs) s t m) (R : ℕ) (l : R ≤ length rs) where

@@ -13,7 +13,7 @@ ghost use Rattle.pairs.specs.Came.{Came};
 ghost use Rattle.pairs.specs.Marks.{Stored, Marking, Noted, Scanned};
 ghost use Rattle.pairs.specs.Found.{pairs_at, first_in, pair_of, Sought, Found};
 
-use job_field::{Field, Line, behind, pairs_in, read, wide};
+use job_field::{Fault, Field, Line, behind, pairs_in, read};
 use meaning::{NO_TAG, Tag};
 use moment::{Closed, Question};
 use table::{put_since, since};
@@ -25,14 +25,13 @@ pub fn came(work: &[u16], q: Question) -> usize
 {
     let s = q.s;
     let t = q.t;
-    if s.is(t) {
+    if s == t {
         return 0;
     }
-    let b = moment::met(work, s, t);
-    if b >= meaning::MOST_TAGS {
-        return q.before + 1;
+    match moment::met(work, s, t) {
+        Some(b) => moment::made(work, b),
+        None => q.before + 1,
     }
-    moment::made(work, b)
 }
 
 // When the tags of a pair became equal is kept at its place, by all records.
@@ -75,12 +74,10 @@ pub fn first_broken(work: &[u16], count: usize, before: usize) -> usize
     requires { Large work.now × (count ≤ most_differs) }
     ensures { Scanned work.now count before result }
 {
-    let mut i: usize = 0;
-    while i < count {
+    for i in 0..count {
         if since(work, i) <= before {
             return i + 1;
         }
-        i += 1;
     }
     0
 }
@@ -93,15 +90,12 @@ pub struct Differing {
 }
 
 // How many pairs a field has.
-fn pairs_here(field: Field) -> u16
+fn pairs_here(field: Result<Field, Fault>) -> u16
     ensures { result ≡ length (pairs_at (said field)) }
 {
     match field {
-        Field::Bad(_) => 0,
-        Field::Header(_, _, _) => 0,
-        Field::Noted(l) => pairs_in(l),
-        Field::Posed(_) => 0,
-        Field::End => 0,
+        Ok(Field::Noted(l)) => pairs_in(l),
+        _ => 0,
     }
 }
 
@@ -122,24 +116,12 @@ fn pair_in(l: Line) -> Differing
     }
 }
 
-fn pair_here(field: Field) -> Differing
+fn pair_here(field: Result<Field, Fault>) -> Differing
     ensures { pair_of result ≡ first_in (pairs_at (said field)) }
 {
     match field {
-        Field::Bad(_) => Differing {
-            s: NO_TAG,
-            t: NO_TAG,
-        },
-        Field::Header(_, _, _) => Differing {
-            s: NO_TAG,
-            t: NO_TAG,
-        },
-        Field::Noted(l) => pair_in(l),
-        Field::Posed(_) => Differing {
-            s: NO_TAG,
-            t: NO_TAG,
-        },
-        Field::End => Differing {
+        Ok(Field::Noted(l)) => pair_in(l),
+        _ => Differing {
             s: NO_TAG,
             t: NO_TAG,
         },
@@ -155,7 +137,7 @@ pub fn pair_at(job: &[u8], number: usize) -> Differing
     let mut left = number;
     loop {
         let field = read(job, at);
-        let here = wide(pairs_here(field));
+        let here = usize::from(pairs_here(field));
         if left <= here {
             return pair_here(field);
         }

@@ -2,8 +2,8 @@
 -- most that join's, and no record that is kept can be spared. Assumes nothing.
 use Prim.Native.Nat.{ℕ, zero, suc, ◌≤◌, ◌<◌}
 use native.Mathlib.Omega.{arith}
-use native.Mathlib.Decide.{ℕ_discrete, dec_lt}
-use mathlib.Core.Path.{◌≡◌, ap, ◌∙◌}
+use native.Mathlib.Decide.{ℕ_discrete}
+use mathlib.Core.Path.{◌≡◌, refl, ap, ◌∙◌}
 use mathlib.Core.Logic.{◌≢◌, ◌↔◌, inl, inr}
 use mathlib.Core.Bool.{Bool, true, false}
 use mathlib.Core.List.{List, [], ◌∷◌, Memᴰ}
@@ -37,7 +37,7 @@ use Rattle.reason_list.specs.Listing.{waiting_in, Gathered}
 use Rattle.reason_trim.specs.Trimming.{Pruned, Followed}
 use Rattle.reason_order.specs.Rising.{Numbered, Sorted}
 use Rattle.reason.specs.Explaining.{Question, Explained, Joining, Reasoned}
-use Rattle.reason.specs.declared.Answer.TheVariants.{Because, Apart}
+use Rattle.std.proofs.Common.{Some, None}
 
 -- Fewer marks and fewer joins use fewer records.
 keep-less : (b : Bool) (L : List ℕ) (k : ℕ) → Memᴰ k (keep b L) → Memᴰ k L
@@ -190,21 +190,17 @@ reason-later {N} {k} {rs = rs} l r = record {
 
 -- The four answers.
 module _ {N len n before s t : ℕ} {w : List ℕ} (Q : Question N len n before s t w) where
-  pub answer-same : s ≡ t → Explained N len n before s t w w (Because 0)
+  pub answer-same : s ≡ t → Explained N len n before s t w w (Some 0)
   answer-same q = record { kept = within-refl w; past = Q.past; says = rw q (reason-same N (records_in len w) before t) }
 
-  pub answer-never : {b : ℕ} → Met w s t b → n ≤ b → Explained N len n before s t w w Apart
-  answer-never {b} M l = record { kept = within-refl w; past = Q.past; says = met-never Q.past M before Q.stands (top (dec_lt b most_tags)) }
-    where
-      top : Dec (b < most_tags) → b ≡ most_tags
-      top (yes h) = absurd (omega (arith, met-join Q.past M h))
-      top (no h) = omega (arith, M.most)
+  pub answer-never : Met w s t most_tags → Explained N len n before s t w w None
+  answer-never M = record { kept = within-refl w; past = Q.past; says = met-never Q.past M before Q.stands refl }
 
-  pub answer-later : {b k : ℕ} → Met w s t b → b < n → k ≡ when_of w b → before < k → Explained N len n before s t w w Apart
-  answer-later M l e h = record { kept = within-refl w; past = Q.past; says = met-later Q.past M before Q.stands l (omega arith) }
+  pub answer-later : {b k : ℕ} → Met w s t b × (b < most_tags) → k ≡ when_of w b → before < k → Explained N len n before s t w w None
+  answer-later M e h = record { kept = within-refl w; past = Q.past; says = met-later Q.past M.0 before Q.stands (met-join Q.past M.0 M.1) (omega arith) }
 
-  pub asks-reason : {b : ℕ} → s ≢ t → Met w s t b → b < n → Joining N len n s t b w
-  asks-reason d M l = record { past = Q.past; s-tag = Q.s-tag; t-tag = Q.t-tag; two = d; join = l; met = M }
+  pub asks-reason : {b : ℕ} → s ≢ t → Met w s t b × (b < most_tags) → Joining N len n s t b w
+  asks-reason d M = record { past = Q.past; s-tag = Q.s-tag; t-tag = Q.t-tag; two = d; join = met-join Q.past M.0 M.1; met = M.0 }
 
-  pub answer-because : {b k c : ℕ} {w' : List ℕ} → k ≡ when_of w b → k ≤ before → Reasoned N len s t b w w' c → Explained N len n before s t w w' (Because c)
+  pub answer-because : {b k c : ℕ} {w' : List ℕ} → k ≡ when_of w b → k ≤ before → Reasoned N len s t b w w' c → Explained N len n before s t w w' (Some c)
   answer-because e l r = record { kept = r.kept; past = kept-past r.kept Q.past; says = reason-later (omega arith) r.reason }

@@ -1,15 +1,15 @@
 -- Crossing the newest join between two tags leaves two pairs that older joins bring together, one on each side; a join of two
 -- applications leaves their argument pairs. So marks that support themselves still do when a join is marked after these. Assumes nothing.
-use Prim.Native.Nat.{ℕ, suc, ◌+◌, ◌≤◌, ◌<◌}
+use Prim.Native.Nat.{ℕ, suc, ◌+◌, ◌-◌, ◌≤◌, ◌<◌}
 use native.Mathlib.Omega.{arith}
 use native.Mathlib.Decide.{ℕ_discrete, dec_lt}
 use mathlib.Core.Path.{◌≡◌, refl, ◌∙◌, ap, fun_ext}
 use mathlib.Core.Logic.{◌≢◌, ◌⊎◌, inl, inr}
 use mathlib.Core.Bool.{true}
-use mathlib.Core.List.{List}
+use mathlib.Core.List.{List, ◌++◌}
 use lib.Dec.{eqb}
 use borrow.Author.Tests.{eq-eqb}
-use lib.ListN.{set}
+use lib.ListN.{set, length, take, drop}
 use Rattle.meaning.specs.Following.{Rec}
 use Rattle.meaning.specs.Joins.{Join, Supported, put}
 use Rattle.meaning.specs.Needed.{Crosses}
@@ -17,7 +17,9 @@ use Rattle.meaning.proofs.Forest.{newest}
 use Rattle.meaning.proofs.Log.{put-hit, put-miss}
 use Rattle.meaning.specs.Limits.{most_records, most_tags}
 use Rattle.table.specs.Map.{left_of, right_of, parent_of, age_of, first_of, second_of, label_of, mark_of, join_at, Within}
-use Rattle.table.proofs.Frame.{seen-in, seen-out, within-refl, within-trans, within_wider, within-set}
+use Rattle.table_labels.specs.Parts.{Fills}
+use Rattle.table_labels.proofs.Views.{lent-within, lent_at}
+use Rattle.table.proofs.Frame.{seen_at, seen-in, seen-out, within-refl, within-trans, within_wider, within-set}
 use Rattle.table.specs.Past.{Past}
 use Rattle.table.specs.Places.{LABEL, LIST, Large, MARKS, NEXT, SAVED, all_of, closure_part, from_to, list_part}
 use Rattle.table_labels.specs.Parts.{Fresh}
@@ -145,21 +147,13 @@ pub caused-rights : {w : List ℕ} {b q a a' c c' : ℕ} → Holds w (suc b) →
 caused-rights h k z = rw (k.c-is, k.c'-is) (holds-pairs h (λ e. z (k.second_is ∙ e))).rights
 
 -- Taking the marks off, one by one.
-pub unmarked-start : (w : List ℕ) → Unmarked w w 0
-unmarked-start w = record { kept = within-refl w; none = λ a l. absurd (omega arith) }
-
-pub unmarked-more : {w w₁ w₂ : List ℕ} {b : ℕ} → b < most_tags → Large w → w₂ ≡ set w₁ (MARKS.at + b) 0 → Unmarked w w₁ b → Unmarked w w₂ (suc b)
-unmarked-more {w} {w₁} {w₂} {b} l h e u = record {
-  kept = within-trans u.kept (rw e (within-set (all_of MARKS) w₁ (MARKS.at + b) 0 (omega arith) (omega arith)));
-  none = λ a k. ap (λ (f : ℕ → ℕ). f a) mark ∙ go a k (ℕ_discrete a b);
-}
-  where
-    mark : mark_of w₂ ≡ put b 0 (mark_of w₁)
-    mark = ap mark_of e ∙ seen-in MARKS w₁ b 0 l (omega (arith, u.kept.size))
-
-    go : (a : ℕ) → a < suc b → Dec (a ≡ b) → put b 0 (mark_of w₁) a ≡ 0
-    go a k (yes q) = rw q (put-hit b 0 (mark_of w₁))
-    go a k (no q) = rw (put-miss b 0 (mark_of w₁) a q) (u.none a (omega arith))
+pub unmarked : {n : ℕ} (w w' v : List ℕ) → Large w → n ≤ most_tags → length v ≡ length (take (MARKS.at + n - MARKS.at) (drop MARKS.at w)) → w' ≡ take MARKS.at w ++ (v ++ drop (MARKS.at + n - MARKS.at) (drop MARKS.at w)) → Fills v 0 → Unmarked w w' n
+unmarked {n} w w' v long l s e h =
+    let c = MARKS.at + n - MARKS.at in
+    record {
+      kept = within_wider (all_of MARKS) (omega arith) (omega arith) (lent-within MARKS.at c w w' v (omega arith) s e);
+      none = λ a k. seen_at MARKS w' a (omega arith) ∙ lent_at MARKS.at c w w' v (omega arith) s e (λ i. 0) h a (omega arith);
+    }
 
 -- Where no join is marked, the marked ones rest on each other.
 pub unmarked-supported : {w w' : List ℕ} {n : ℕ} (rs : List Rec) (e : ℕ → Join) → Unmarked w w' n → Supported rs e (marked w') n

@@ -1,3 +1,4 @@
 pub mod Shown
 pub mod Ways
 pub mod Tracing
+pub mod Walking

@@ -12,9 +12,10 @@ ghost use Rattle.table.specs.Places.{Large, MARKS};
 ghost use Rattle.moment.specs.Holding.{Holds};
 ghost use Rattle.reason_follow.specs.Shown.{Remembers, Noted, Taken, Forgot, order_part};
 ghost use Rattle.reason_follow.specs.Tracing.{Together, Unfollowed, Crossed, Ended, Sided, Caused, Rested, Swept, Traced, Unmarked};
-ghost use Rattle.reason_follow.specs.Ways.{Listed, Read, Turned, Put, Asks, Nearest, SomeWay, Onward, Passed};
+ghost use Rattle.reason_follow.specs.Ways.{Listed, Read, Turned, Put, Asks, Nearest, Passed};
+ghost use Rattle.reason_follow.specs.Walking.{Underway, Further};
 
-use meaning::{RecordNo, Tag};
+use meaning::{NO_RECORD, RecordNo, Tag};
 use table::{LABEL, NEXT};
 
 // Where the order in which joins are taken stands, behind those that wait: by place the join's age, and how many there are.
@@ -23,52 +24,28 @@ const ORDER: usize = meaning::MOST_TAGS;
 const TAKEN: usize = 2 * meaning::MOST_TAGS;
 
 // The two tags that a join brought together.
-#[derive(Clone, Copy)]
-pub struct Pair {
-    pub near: Tag,
-    pub far: Tag,
-}
-
-fn ends(work: &[u16], b: usize) -> Pair
+fn ends(work: &[u16], b: usize) -> (Tag, Tag)
     requires { Holds work.now (suc b) }
-    ensures { Ended work.now b result.near.0 result.far.0 }
+    ensures { Ended work.now b result.0.0 result.1.0 }
 {
     let p = table::first(work, b);
     let q = table::second(work, b);
-    if q.is_none() {
-        Pair {
-            near: table::left(work, p),
-            far: table::right(work, p),
-        }
+    if q == NO_RECORD {
+        (table::left(work, p), table::right(work, p))
     } else {
-        Pair {
-            near: table::result(work, p),
-            far: table::result(work, q),
-        }
+        (table::result(work, p), table::result(work, q))
     }
 }
 
 // The two tags that a join brought together, the one on the side of s first.
-fn sides(work: &[u16], s: Tag, t: Tag, b: usize) -> Pair
+fn sides(work: &[u16], s: Tag, t: Tag, b: usize) -> (Tag, Tag)
     requires { Crossed work.now s.0 t.0 b }
-    ensures { Sided work.now s.0 t.0 b result.near.0 result.far.0 }
+    ensures { Sided work.now s.0 t.0 b result.0.0 result.1.0 }
 {
-    let e = ends(work, b);
-    let near = e.near;
-    let far = e.far;
+    let (near, far) = ends(work, b);
     let l = moment::leader(work, b, s);
     let m = moment::leader(work, b, near);
-    if l.is(m) {
-        Pair {
-            near: near,
-            far: far,
-        }
-    } else {
-        Pair {
-            near: far,
-            far: near,
-        }
-    }
+    if l == m { (near, far) } else { (far, near) }
 }
 
 // A join's second record, and the argument pairs of its two records: a with a2, c with c2.
@@ -93,10 +70,10 @@ fn causes_of(work: &[u16], b: usize) -> Causes
     let c2 = table::right(work, q);
     Causes {
         second: q,
-        a: a,
-        a2: a2,
-        c: c,
-        c2: c2,
+        a,
+        a2,
+        c,
+        c2,
     }
 }
 
@@ -115,19 +92,11 @@ fn waiting(work: &[u16], n: usize) -> Turn
 {
     let v = table::next(work, n);
     if v < meaning::MOST_TAGS {
-        let e = ends(work, v);
-        let near = e.near;
-        let far = e.far;
-        Turn {
-            age: v,
-            near: near,
-            far: far,
-        }
+        let (near, far) = ends(work, v);
+        Turn { age: v, near, far }
     } else {
         let b = v - meaning::MOST_TAGS;
-        let e = ends(work, b);
-        let near = e.near;
-        let far = e.far;
+        let (near, far) = ends(work, b);
         Turn {
             age: b,
             near: far,
@@ -137,14 +106,13 @@ fn waiting(work: &[u16], n: usize) -> Turn
 }
 
 // Has the join of age b wait at place n, to be crossed from `near`, which is one of its tags.
-fn put_waiting(work: &mut [u16], n: usize, b: usize, e: Pair)
-    requires { Turned work.old n b e.near.0 e.far.0 }
-    ensures { Put work.old work.new n b e.near.0 e.far.0 }
+fn put_waiting(work: &mut [u16], n: usize, b: usize, e: (Tag, Tag))
+    requires { Turned work.old n b e.0.0 e.1.0 }
+    ensures { Put work.old work.new n b e.0.0 e.1.0 }
 {
-    let near = e.near;
-    let k = ends(work, b);
-    let first = k.near;
-    if near.is(first) {
+    let (near, _) = e;
+    let (first, _) = ends(work, b);
+    if near == first {
         table::put_next(work, n, b);
     } else {
         table::put_next(work, n, meaning::MOST_TAGS + b);
@@ -163,18 +131,18 @@ pub struct Way {
 
 // The newest join up to the next known tag is found. It waits, and the way is known to its near end.
 fn split(work: &mut [u16], t: Tag, p: Way) -> Way
-    requires { SomeWay work.old t.0 p.at.0 p.to.0 p.below p.waiting × (p.at.0 ≢ p.to.0) }
-    ensures { Onward work.old t.0 p.at.0 p.to.0 p.below p.waiting work.new result.at.0 result.to.0 result.below result.waiting }
+    requires { Underway work.old t.0 p × (p.at.0 ≢ p.to.0) }
+    ensures { Further work.old t.0 p work.new result }
 {
     let at = p.at;
     let to = p.to;
     let n = p.waiting;
     let b = moment::met_before(work, p.below, at, to);
     let e = sides(work, at, to, b);
-    let near = e.near;
+    let (near, _) = e;
     put_waiting(work, n, b, e);
     Way {
-        at: at,
+        at,
         to: near,
         below: b,
         waiting: n + 1,
@@ -258,8 +226,8 @@ fn forget(work: &mut [u16])
 
 // The way to the near end of the last join that waits is shown. That join is crossed, and taken.
 fn cross(work: &mut [u16], t: Tag, p: Way) -> Way
-    requires { SomeWay work.old t.0 p.at.0 p.to.0 p.below p.waiting × (label_of work.old p.at.0 ≡ label_of work.old p.to.0) × (label_of work.old p.at.0 ≢ label_of work.old t.0) }
-    ensures { Onward work.old t.0 p.at.0 p.to.0 p.below p.waiting work.new result.at.0 result.to.0 result.below result.waiting }
+    requires { Underway work.old t.0 p × (label_of work.old p.at.0 ≡ label_of work.old p.to.0) × (label_of work.old p.at.0 ≢ label_of work.old t.0) }
+    ensures { Further work.old t.0 p work.new result }
 {
     let n = p.waiting - 1;
     let r = waiting(work, n);
@@ -279,8 +247,8 @@ fn cross(work: &mut [u16], t: Tag, p: Way) -> Way
 
 // One step on a way that is not shown to the end: up to the next known tag it may be.
 fn step(work: &mut [u16], t: Tag, p: Way) -> Way
-    requires { SomeWay work.old t.0 p.at.0 p.to.0 p.below p.waiting × (label_of work.old p.at.0 ≢ label_of work.old t.0) }
-    ensures { Onward work.old t.0 p.at.0 p.to.0 p.below p.waiting work.new result.at.0 result.to.0 result.below result.waiting }
+    requires { Underway work.old t.0 p × (label_of work.old p.at.0 ≢ label_of work.old t.0) }
+    ensures { Further work.old t.0 p work.new result }
 {
     let at = p.at;
     let to = p.to;
@@ -316,7 +284,7 @@ fn rest(work: &mut [u16], b: usize)
     }
     let k = causes_of(work, b);
     let second = k.second;
-    if second.is_none() {
+    if second == NO_RECORD {
         return;
     }
     let a = k.a;
@@ -363,9 +331,5 @@ pub fn unmark_all(work: &mut [u16], n: usize)
     requires { Large work.old × (n ≤ most_tags) }
     ensures { Unmarked work.old work.new n }
 {
-    let mut a: usize = 0;
-    while a < n {
-        unmark(work, a);
-        a += 1;
-    }
+    work[table::MARKS..table::MARKS + n].fill(0);
 }

@@ -1,30 +1,26 @@
 -- Trimming takes no number out of a list exactly if none can be spared. Assumes nothing.
-use Prim.Native.Nat.{ℕ, ◌+◌, ◌≤◌, ◌<◌}
+use Prim.Native.Nat.{ℕ, ◌+◌, ◌≤◌}
 use native.Mathlib.Omega.{arith}
-use native.Mathlib.Numerals.{add-one}
-use mathlib.Core.Path.{◌≡◌, refl, sym, ap, ◌∙◌}
+use mathlib.Core.Path.{◌≡◌, sym, ap, ◌∙◌}
 use mathlib.Core.Logic.{◌↔◌, inl}
 use mathlib.Core.Bool.{Bool, true, false}
 use mathlib.Core.List.{List, Memᴰ}
 use lib.Dec.{eqb}
-use lib.ListN.{set}
 use Rattle.meaning.specs.Following.{Follows, Only}
 use Rattle.meaning.proofs.Close.{more_of}
 use Rattle.meaning.proofs.Rising.{take_out, rising-short}
 use Rattle.meaning.proofs.Short.{dec_among}
 use Rattle.table.specs.Map.{list_of, list_in, records_in, place_of, Within}
-use Rattle.table.proofs.Frame.{seen-within, within-refl, within-trans, within_wider, within-set, length-gather, gather-same, gather-in, in-gather}
+use Rattle.table.proofs.Frame.{seen-within, within-trans, within_wider, length-gather, gather-same, gather-in, in-gather}
 use Rattle.list_ways.specs.Halves.{Picked, Every}
 use Rattle.list_add.specs.Filing.{Listing}
 use Rattle.list_halve.specs.Halving.{Entailing}
-use Rattle.reason_list.specs.Listing.{waiting_in}
-use Rattle.reason_trim.specs.Trimming.{Followed, Pruned}
+use Rattle.reason_trim.specs.Trimming.{Copied, Followed, Pruned}
 use Rattle.reason_trim.proofs.Closing.{place-list}
 use Rattle.reason_order.specs.Rising.{Numbered, Sorted}
-use Rattle.reason_list.proofs.Gathering.{list_hit, list_miss}
 use Rattle.moment.proofs.Kept.{kept-records, kept-loaded, kept-past}
 use Rattle.meaning.proofs.Tests.{is-not, is-so}
-use Rattle.table.specs.Places.{FRONT, LIST, Large, all_of, from_to, most_waiting, scratch, waiting_at}
+use Rattle.table.specs.Places.{FRONT, LIST, from_to, most_waiting, scratch, waiting_at}
 use Rattle.moment.specs.declared.Question.{Question}
 use Rattle.moment.specs.Posed.{Posed, Deciding}
 use Rattle.reason_test.specs.Lists.{Listed, Moved, Named, Entailed, NoneSpare, Sufficient}
@@ -46,29 +42,9 @@ listed_kept {w} {w'} {N} {len} {e} {n} f h l = record {
   named = λ i m. listed-names l (list_of w' i) (h (list_of w' i) (gather-in (list_of w') n i m));
 }
 
--- The list comes to where those wait that are tried, number by number.
-pub record Moving (w w' : List ℕ) (i : ℕ) : Type 0 where
-  pub moved : Moved i w w'
-  pub front : (x : ℕ) → x < waiting_at → list_of w' x ≡ list_of w x
-
-pub moving-none : (w : List ℕ) → Moving w w 0
-moving-none w = record { moved = record { kept = within-refl w; is = refl }; front = λ x l. refl }
-
-pub moving-more : (i k : ℕ) (w w₁ w₂ : List ℕ) → Large w → i < waiting_at → Moving w w₁ i → k ≡ list_of w₁ i → w₂ ≡ set w₁ (LIST.at + (waiting_at + i)) k → Moving w w₂ (i + 1)
-moving-more i k w w₁ w₂ h l m q e = rw e (record { moved = record { kept = kept; is = is }; front = λ x o. list_miss w₁ (waiting_at + i) k x (omega arith) long (λ z. omega arith) ∙ m.front x o })
-  where
-    long : Large w₁
-    long = omega (arith, m.moved.kept.size)
-
-    kept : Within (all_of LIST) w (set w₁ (LIST.at + (waiting_at + i)) k)
-    kept = within-trans m.moved.kept (within-set (all_of LIST) w₁ (LIST.at + (waiting_at + i)) k (omega arith) (omega arith))
-
-    is : waiting_in (i + 1) (set w₁ (LIST.at + (waiting_at + i)) k) ≡ list_in (i + 1) w
-    is =
-        let w₃ = set w₁ (LIST.at + (waiting_at + i)) k in
-        let a : waiting_in i w₃ ≡ list_in i w = gather-same (λ j. list_of w₃ (waiting_at + j)) (λ j. list_of w₁ (waiting_at + j)) i (λ j o. list_miss w₁ (waiting_at + i) k (waiting_at + j) (omega arith) long (λ z. omega arith)) ∙ m.moved.is in
-        let b : list_of w₃ (waiting_at + i) ≡ list_of w i = list_hit w₁ (waiting_at + i) k (omega arith) long ∙ q ∙ m.front i l in
-        rw (add-one, a, b)
+-- The list comes to where those wait that are tried.
+pub moved : {n : ℕ} {w w' : List ℕ} → Copied w w' 0 waiting_at n → Moved n w w'
+moved {n} {w} {w'} c = record { kept = c.kept; is = gather-same (λ j. list_of w' (waiting_at + j)) (list_of w) n (λ j o. let e : 0 + j ≡ j = omega arith in rw e at (c.copy j o)) }
 
 -- What trimming leaves of a list, in rising order, is as many exactly if none of the list can be spared.
 module _ {w w₁ : List ℕ} {q : Question} {n : ℕ} (h : Named w q n) (M : Moved n w w₁) where

@@ -1,41 +1,42 @@
--- Numbers of the list are copied to its front. Assumes nothing.
-use Prim.Native.Nat.{ℕ, suc, ◌+◌, ◌≤◌, ◌<◌}
+-- Numbers of the list are copied within it. Assumes nothing.
+use Prim.Native.Nat.{ℕ, ◌+◌, ◌-◌, ◌≤◌, ◌<◌}
 use native.Mathlib.Omega.{arith}
-use native.Mathlib.Decide.{ℕ_discrete}
-use mathlib.Core.Path.{◌≡◌, refl, ◌∙◌}
-use mathlib.Core.Logic.{◌≢◌, ◌⊎◌, inl, inr}
+use native.Mathlib.Decide.{dec_lt}
+use mathlib.Core.Path.{◌≡◌, sym, ◌∙◌}
+use mathlib.Core.Logic.{◌⊎◌, inl, inr}
 use mathlib.Core.List.{List}
-use lib.ListN.{set}
-use Rattle.table.specs.Map.{list_of}
-use Rattle.table.proofs.Frame.{within-refl, within-trans, within-set}
-use Rattle.reason_list.proofs.Gathering.{list_hit, list_miss}
-use Rattle.reason_trim.specs.Trimming.{Copied}
+use lib.ListN.{length, get_or}
+use Rattle.std.specs.List.{CopiedTo, SameBelow, SameFrom}
 use Rattle.meaning.specs.Limits.{most_records}
-use Rattle.table.specs.Places.{LIST, Large, all_of}
+use Rattle.table.specs.Map.{list_of}
+use Rattle.table.specs.Places.{LIST, Large}
+use Rattle.table.proofs.Frame.{seen_at, seen-past}
+use Rattle.reason_trim.specs.Trimming.{Copied}
 
--- Copying, one number more.
-pub copied-start : (w : List ℕ) (from to : ℕ) → Copied w w from to 0
-copied-start w from to = record { kept = within-refl w; same = λ x h. refl; copy = λ j l. absurd (omega arith) }
+-- What the library's copy leaves of the list.
+module _ (w w' : List ℕ) (from to count : ℕ) (long : Large w) (t : to + count ≤ most_records) (f : from + count ≤ most_records) (size : length w' ≡ length w)
+    (copy : CopiedTo w w' (LIST.at + from) (LIST.at + to) (LIST.at + from + count - (LIST.at + from))) (below : SameBelow w w' (LIST.at + to)) (behind : SameFrom w w' (LIST.at + to + (LIST.at + from + count - (LIST.at + from)))) where
+  outside : (i : ℕ) → (i < LIST.at + to) ⊎ (LIST.at + to + count ≤ i) → get_or w' i 0 ≡ get_or w i 0
+  outside i (inl l) = below i 0 l
+  outside i (inr l) = behind i 0 (omega arith)
 
-pub copied_more : {w w₁ w₂ : List ℕ} {from to count k : ℕ} (j : ℕ) → Large w → to + count ≤ from → from + count ≤ most_records → j < count → k ≡ list_of w₁ (from + j) → w₂ ≡ set w₁ (LIST.at + (to + j)) k
-    → Copied w w₁ from to j → Copied w w₂ from to (suc j)
-copied_more {w} {w₁} {w₂} {from} {to} {count} {k} j h l m i q e c = rw e (record {
-  kept = within-trans c.kept (within-set (all_of LIST) w₁ (LIST.at + (to + j)) k (omega arith) (omega arith));
-  same = λ x o. list_miss w₁ (to + j) k x (omega arith) long (apart x o) ∙ c.same x (out x o);
-  copy = λ x y. last x y (ℕ_discrete x j);
-})
-  where
-    long : Large w₁
-    long = omega (arith, c.kept.size)
+  list_same : (x : ℕ) → (x < to) ⊎ (to + count ≤ x) → Dec (x < most_records) → list_of w' x ≡ list_of w x
+  list_same x o (yes l) = seen_at LIST w' x l ∙ outside (LIST.at + x) (side o) ∙ sym (seen_at LIST w x l)
+    where
+      side : (x < to) ⊎ (to + count ≤ x) → (LIST.at + x < LIST.at + to) ⊎ (LIST.at + to + count ≤ LIST.at + x)
+      side (inl h) = inl (omega arith)
+      side (inr h) = inr (omega arith)
+  list_same x o (no l) = seen-past LIST w' x (omega arith) ∙ sym (seen-past LIST w x (omega arith))
 
-    apart : (x : ℕ) → (x < to) ⊎ (to + suc j ≤ x) → x ≢ to + j
-    apart x (inl o) z = omega arith
-    apart x (inr o) z = omega arith
+  pub copied : Copied w w' from to count
+  copied = record { kept = record { size = size; same = λ i o. kept i o }; same = λ x o. list_same x o (dec_lt x most_records); copy = λ j l. here j l }
+    where
+      kept : (i : ℕ) → (i < LIST.at) ⊎ (LIST.at + LIST.size ≤ i) → get_or w' i 0 ≡ get_or w i 0
+      kept i (inl h) = outside i (inl (omega arith))
+      kept i (inr h) = outside i (inr (omega arith))
 
-    out : (x : ℕ) → (x < to) ⊎ (to + suc j ≤ x) → (x < to) ⊎ (to + j ≤ x)
-    out x (inl o) = inl o
-    out x (inr o) = inr (omega arith)
-
-    last : (x : ℕ) → x < suc j → Dec (x ≡ j) → list_of (set w₁ (LIST.at + (to + j)) k) (to + x) ≡ list_of w (from + x)
-    last x y (yes z) = rw z (list_hit w₁ (to + j) k (omega arith) long ∙ q ∙ c.same (from + j) (inr (omega arith)))
-    last x y (no z) = list_miss w₁ (to + j) k (to + x) (omega arith) long (λ o. z (omega arith)) ∙ c.copy x (omega arith)
+      here : (j : ℕ) → j < count → list_of w' (to + j) ≡ list_of w (from + j)
+      here j l =
+          let p : LIST.at + from + (LIST.at + (to + j) - (LIST.at + to)) ≡ LIST.at + (from + j) = omega arith in
+          let q : get_or w' (LIST.at + (to + j)) 0 ≡ get_or w (LIST.at + (from + j)) 0 = rw p at (copy (LIST.at + (to + j)) 0 (omega arith) (omega arith)) in
+          seen_at LIST w' (to + j) (omega arith) ∙ q ∙ sym (seen_at LIST w (from + j) (omega arith))

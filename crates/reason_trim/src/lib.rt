@@ -8,19 +8,15 @@ ghost use Rattle.table.specs.Places.{Large, front_size};
 ghost use Rattle.reason_trim.specs.Trimming.{Copied, Moved, Together, Pruned, Followed};
 
 use list_halve::Trial;
-use meaning::Tag;
+use meaning::NO_RECORD;
 
-// The `count` numbers of the list from `from` on, which stand behind, are written from `to` on.
+// The `count` numbers of the list from `from` on are written from `to` on.
 pub fn copy(work: &mut [u16], from: usize, to: usize, count: usize)
-    requires { Large work.old × (to + count ≤ from) × (from + count ≤ most_records) }
+    requires { Large work.old × (to + count ≤ most_records) × (from + count ≤ most_records) }
     ensures { Copied work.old work.new from to count }
 {
-    let mut j: usize = 0;
-    while j < count {
-        let k = table::listed(work, from + j);
-        table::put_listed(work, to + j, k);
-        j += 1;
-    }
+    let at = table::LIST + from;
+    work.copy_within(at..at + count, table::LIST + to);
 }
 
 // The number at place i comes behind the `kept` ones, unless it was left out. Says how many are kept then.
@@ -29,7 +25,7 @@ fn keep(work: &mut [u16], i: usize, kept: usize) -> usize
     ensures { Moved work.old work.new i kept result }
 {
     let r = table::listed(work, i);
-    if r.is_none() {
+    if r == NO_RECORD {
         return kept;
     }
     table::put_listed(work, kept, r);
@@ -42,26 +38,18 @@ fn close_up(work: &mut [u16], n: usize) -> usize
     ensures { Together work.old work.new n result }
 {
     let mut kept: usize = 0;
-    let mut i: usize = 0;
-    while i < n {
+    for i in 0..n {
         kept = keep(work, i, kept);
-        i += 1;
     }
     kept
 }
 
 // Takes out the spare ones of all n that wait. Says how many are kept.
-pub fn trim(work: &mut [u16], size: usize, len: usize, n: usize, s: Tag, t: Tag) -> usize
-    requires { Followed size len s.0 t.0 work.old n }
-    ensures { Pruned size len s.0 t.0 work.old work.new n result }
+pub fn trim(work: &mut [u16], q: Trial) -> usize
+    requires { Followed q.task.size q.task.len q.s.0 q.t.0 work.old q.task.n }
+    ensures { Pruned q.task.size q.task.len q.s.0 q.t.0 work.old work.new q.task.n result }
 {
-    let q = Trial {
-        size: size,
-        len: len,
-        n: n,
-        s: s,
-        t: t,
-    };
+    let n = q.task.n;
     copy(work, reason_list::WAITING, 0, n);
     list_halve::sift(work, q);
     close_up(work, n)

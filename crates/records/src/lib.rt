@@ -11,9 +11,9 @@ use meaning::{NO_TAG, Tag};
 // The named places.
 pub const NAMED: usize = meaning::NAMED_PLACES;
 
-// A place of the table. Kind 1 is the record a = b, with c zero; kind 2 is f(a, b) = c; kind 0 is no record, and then all is zero. The record's sheet is 0
+// A place of the table, as document 01 names it: the kinds stay its numbers. Kind 1 is the record a = b, with c zero; kind 2 is f(a, b) = c; kind 0 is no record, and then all is zero. The record's sheet is 0
 // where it has none (document 02, No. 9).
-#[derive(Clone, Copy)]
+#[derive(Clone, Copy, Debug, PartialEq, Eq)]
 pub struct Record {
     pub kind: u16,
     pub a: Tag,
@@ -21,6 +21,15 @@ pub struct Record {
     pub c: Tag,
     pub sheet: u16,
 }
+
+// A place that holds no record.
+pub const BLANK: Record = Record {
+    kind: 0,
+    a: NO_TAG,
+    b: NO_TAG,
+    c: NO_TAG,
+    sheet: 0,
+};
 
 // The record at a place.
 pub fn fetch(records: &[Record], i: usize) -> Record
@@ -43,16 +52,5 @@ pub fn clear(records: &mut [Record])
     requires { named_places ≤ length records.old }
     ensures { Blanked records.old records.new }
 {
-    let none = Record {
-        kind: 0,
-        a: NO_TAG,
-        b: NO_TAG,
-        c: NO_TAG,
-        sheet: 0,
-    };
-    let mut i = 0;
-    while i < NAMED {
-        records[i] = none;
-        i = i + 1;
-    }
+    records[..NAMED].fill(BLANK);
 }

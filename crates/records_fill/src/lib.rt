@@ -97,13 +97,11 @@ fn note_found(l: Line, next: usize) -> Found
 fn look(job: &[u8], at: usize) -> Found
     ensures { result ≡ found_at job.now at (field_standing job.now at) }
 {
-    let field = read(job, at);
-    match field {
-        Field::Noted(l) => note_found(l, behind(job, at)),
-        Field::Posed(_) => no_record(true, behind(job, at)),
-        Field::Header(_, _, _) => no_record(true, behind(job, at)),
-        Field::Bad(_) => no_record(false, at),
-        Field::End => no_record(false, at),
+    match read(job, at) {
+        Ok(Field::Noted(l)) => note_found(l, behind(job, at)),
+        Ok(Field::Posed(_)) => no_record(true, behind(job, at)),
+        Ok(Field::Header(_)) => no_record(true, behind(job, at)),
+        Ok(Field::End) | Err(_) => no_record(false, at),
     }
 }
 
@@ -127,12 +125,10 @@ pub fn fill(job: &[u8], records: &mut [Record], n: usize)
     ensures { Filled job.now n records.old records.new }
 {
     let mut at = 0;
-    let mut i = 0;
-    while i < n {
+    for i in 0..n {
         let found = next_record(job, at);
         store(records, i, found.place);
         at = found.next;
-        i = i + 1;
     }
 }
 
@@ -157,11 +153,8 @@ pub fn load(records: &[Record], n: usize, work: &mut [u16])
     requires { Loadable n records.now work.old }
     ensures { Carried n records.now work.old work.new }
 {
-    let mut i = 0;
-    while i < n {
-        let p = fetch(records, i);
-        load_one(work, i, p);
-        i = i + 1;
+    for i in 0..n {
+        load_one(work, i, fetch(records, i));
     }
 }
 

@@ -1,7 +1,9 @@
 // What a report is: its kinds, and in specs/ what its fields must say. The fields are written by report_write and read by report_read. Document 01,
 // "The job and the report"; document 02, No. 1. Rests on meaning and job_field.
-// The kinds of the report's table: 83 to 8A and 8F.
 #![tactic(auto)]
+
+// The kinds of the report's table: 83 to 8A and 8F. They stay bytes and no enum: the writers and readers take any byte as a kind and nothing matches on one, so that
+// each use would be `Kind::Led as u8`.
 
 pub const LED: u8 = 131;
 

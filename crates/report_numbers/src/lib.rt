@@ -29,10 +29,8 @@ fn write_list(room: &mut [u8], at: usize, work: &[u16], count: usize)
     requires { Large work.now × (count ≤ most_records) × (at + 2 * count ≤ length room.old) }
     ensures { room.new ≡ laid at (numbers (list_in count work.now)) room.old }
 {
-    let mut i = 0;
-    while i < count {
+    for i in 0..count {
         put_listed(room, at, work, i);
-        i += 1;
     }
 }
 
@@ -69,10 +67,8 @@ pub fn read_reason(report: &[u8], at: usize, work: &mut [u16], count: usize)
     requires { Large work.old × (count ≤ most_records) × (at + 2 * count ≤ length report.now) }
     ensures { ListRead report.now at count work.old work.new }
 {
-    let mut i = 0;
-    while i < count {
+    for i in 0..count {
         read_listed(report, at, work, i);
-        i += 1;
     }
 }
 
@@ -90,11 +86,8 @@ pub fn is_list(report: &[u8], at: usize, work: &[u16], count: usize) -> bool
     requires { Large work.now × (count ≤ most_records) × (at + 2 * count ≤ length report.now) }
     ensures { (result ≡ true) ↔ Holds report.now at (numbers (list_in count work.now)) }
 {
-    let mut i = 0;
-    while i < count {
-        if is_listed(report, at, work, i) {
-            i += 1;
-        } else {
+    for i in 0..count {
+        if !is_listed(report, at, work, i) {
             return false;
         }
     }

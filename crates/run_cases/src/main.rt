@@ -4,16 +4,7 @@
 // Rests on haltzurme_own; no contract says what is written, the stored output does.
 #![tactic(auto)]
 
-ghost use Rattle.std.specs.Prelude.{◌≤◌};
-
-use call_rest::Finding;
-use haltzurme_own::{recheck_report, run_job};
-
-fn wide(x: u8) -> usize
-    ensures { result ≤ 255 }
-{
-    x as usize
-}
+use haltzurme_own::{Refusal, recheck_report, run_job};
 
 fn say(rt: &HostRuntime, text: &[u8]) {
     let _ = rt.write_all(text);
@@ -39,30 +30,22 @@ fn verdict(rt: &HostRuntime, a: bool, b: bool) {
 // Writes so many bytes of the room, and answers whether every byte behind them is still dirty.
 fn say_room(rt: &HostRuntime, room: &[u8], n: usize) -> bool {
     let mut good = true;
-    let mut i: usize = 0;
-    while i < room.len() {
-        let b = room[i];
+    for (i, b) in room.iter().enumerate() {
         if i < n {
-            say_byte(rt, b);
-        } else if b != 165 {
+            say_byte(rt, *b);
+        } else if *b != 165 {
             good = false;
         }
-        i += 1;
     }
     good
 }
 
 // Whether the first 32,768 numbers are zero and those behind are still dirty.
 fn swept(table: &[u16]) -> bool {
-    let mut i: usize = 0;
-    while i < table.len() {
-        let due = if i < 32768 { 0 } else { 48879 };
-        if table[i] != due {
-            return false;
-        }
-        i += 1;
-    }
-    true
+    table
+        .iter()
+        .enumerate()
+        .all(|(i, n)| *n == if i < 32768 { 0 } else { 48879 })
 }
 
 fn front_room(s: &mut [u8], n: usize) -> &mut [u8] {
@@ -73,12 +56,22 @@ fn front_table(s: &mut [u16], n: usize) -> &mut [u16] {
     if n <= s.len() { &mut s[..n] } else { s }
 }
 
+// The number and the place of an answer: both are 0 where it is no refusal.
+fn numbers_of(answer: Result<(), Refusal>) -> (usize, usize) {
+    match answer {
+        Ok(()) => (0, 0),
+        Err(refusal) => (usize::from(u8::from(refusal.reason)), refusal.place),
+    }
+}
+
 fn run_with(rt: &HostRuntime, job: &[u8], room: &mut [u8], work: &mut [u16]) {
     let ran = run_job(job, room, work);
-    say_number(rt, wide(ran.number));
-    say_number(rt, ran.place);
-    say_number(rt, ran.length);
-    let kept = say_room(rt, room, ran.length);
+    let (number, place) = numbers_of(ran.map(|_| ()));
+    let length = ran.unwrap_or(0);
+    say_number(rt, number);
+    say_number(rt, place);
+    say_number(rt, length);
+    let kept = say_room(rt, room, length);
     say(rt, b" ");
     verdict(rt, kept, swept(work));
 }
@@ -103,23 +96,19 @@ fn both(rt: &HostRuntime, job: &[u8], size: usize) {
     }
 }
 
-fn found_as(found: Finding, number: usize, place: usize) -> bool {
-    wide(found.number) == number && found.place == place
-}
-
 // The number and the place are those that document 01 gives.
 fn recheck_at(rt: &HostRuntime, job: &[u8], report: &[u8], number: usize, place: usize) {
     let mut space = [48879u16; 32768];
     let work: &mut [u16] = &mut space;
-    let found = recheck_report(job, report, work);
-    say_number(rt, wide(found.number));
-    say_number(rt, found.place);
-    verdict(rt, found_as(found, number, place), swept(work));
+    let (found, at) = numbers_of(recheck_report(job, report, work));
+    say_number(rt, found);
+    say_number(rt, at);
+    verdict(rt, found == number && at == place, swept(work));
 }
 
 // The byte at a place, or 0 behind the end.
 fn byte(table: &[u8], at: usize) -> usize {
-    if at < table.len() { wide(table[at]) } else { 0 }
+    table.get(at).map_or(0, |b| usize::from(*b))
 }
 
 // The bytes between two places, or all where there are none such.
@@ -152,10 +141,8 @@ fn entry(rt: &HostRuntime, job: &[u8], table: &[u8], at: usize) -> usize {
 
 fn entries(rt: &HostRuntime, job: &[u8], table: &[u8], count: usize) {
     let mut at = 0;
-    let mut k: usize = 0;
-    while k < count {
+    for _ in 0..count {
         at = entry(rt, job, table, at);
-        k += 1;
     }
 }
 

@@ -19,7 +19,7 @@ use Rattle.haltzurme.specs.Run as run
 use Rattle.haltzurme_own.specs.Plain.{RanOver}
 use Rattle.text.specs.Lines.{lines_of, refusal_line, text_of}
 use Rattle.text.specs.Told.{Accepted}
-use Rattle.text.specs.declared.Told.{Told}
+use Rattle.std.specs.Prelude.{Option}
 use Rattle.text.specs.Answered.{answer_text, Answered}
 use Rattle.job_field.proofs.Numbers.{refused-some}
 use Rattle.saying.specs.Says.{long, narrow, unread, cramped, Says, answers, refuses, True}
@@ -64,7 +64,7 @@ module _ {each : Record} {job room work : List ℕ} where
   ran-accepted (run.cramped i e s m) z = absurd (omega arith)
   ran-accepted (run.done {H} {items} i e s r m) z = record { head = H; items = items; reads = e }
 
-  pub ran-true : {n p l : ℕ} {room' work' out out' : List ℕ} {told : Told} → RanOver each job room work n p l room' work' → Answered job room' n p l out out' told → True job room work out out' told
+  pub ran-true : {n p l : ℕ} {room' work' out out' : List ℕ} {told : Option ℕ} → RanOver each job room work n p l room' work' → Answered job room' n p l out out' told → True job room work out out' told
   ran-true {n} {p} {l} {room'} r a = record {
     text = answer_text job room' n p l;
     says = ran_says r.ran;

@@ -5,12 +5,14 @@
 ghost use Rattle.saying.specs.Says.{True};
 
 use haltzurme_own::run_job;
-use text::{Told, tell_answer};
+use text::tell_answer;
 
 // Runs a job and puts the lines of its report, or the line of its refusal, into a lent room of bytes.
-pub fn answer_job(job: &[u8], room: &mut [u8], work: &mut [u16], out: &mut [u8]) -> Told
+pub fn answer_job(job: &[u8], room: &mut [u8], work: &mut [u16], out: &mut [u8]) -> Option<usize>
     ensures { True job.now room.old work.old out.old out.new result }
 {
-    let ran = run_job(job, room, work);
-    tell_answer(job, room, ran.number, ran.place, ran.length, out)
+    match run_job(job, room, work) {
+        Ok(length) => tell_answer(job, room, 0, 0, length, out),
+        Err(refusal) => tell_answer(job, room, u8::from(refusal.reason), refusal.place, 0, out),
+    }
 }

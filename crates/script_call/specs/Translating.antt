@@ -8,7 +8,6 @@ use Rattle.call_look.specs.Clear.{Cleared}
 use Rattle.script_terms.specs.Terms.{Command}
 use Rattle.script_meaning.specs.Reading.{fault, got, reading}
 use Rattle.script_meaning.specs.Bytes.{job_of}
-use Rattle.script_call.specs.declared.Translation.{Translation}
 
 -- "a script above 60,000 bytes"; "The caller lends 46,510 bytes for the job".
 abbrev pub longest_script : ℕ
@@ -51,12 +50,6 @@ pub record Carried (script room work : List ℕ) (lent : Bool) (n p l : ℕ) (ro
   pub lent_is : lent ≡ true
   pub converted : Converted script room n p l room'
   pub cleared : Cleared work work'
-
-pub record Blank (n : ℕ) (r : Translation) : Type 0 where
-  pub lent_is : r.lent ≡ false
-  pub number_is : r.number ≡ n
-  pub place_is : r.place ≡ 0
-  pub length-is : r.length ≡ 0
 
 -- What a caller that holds no record table is told: the same, with a table of as many places as are named.
 pub record Answered (script room work : List ℕ) (n p l : ℕ) (room' work' : List ℕ) : Type 0 where

@@ -3,11 +3,9 @@ use Prim.Native.Nat.{ℕ, ◌+◌, ◌≤◌, ◌<◌}
 use native.Mathlib.Omega.{arith}
 use native.Mathlib.Numerals.{add-one}
 use mathlib.Core.Path.{◌≡◌, refl, sym, ◌∙◌, ap, subst}
-use mathlib.Core.Bool.{true, false}
 use mathlib.Core.List.{List, [], ◌∷◌, ◌++◌}
 use lib.ListN.{length, set, length-append, length-set}
 use Rattle.meaning.specs.Following.{eq}
-use Rattle.script_terms.proofs.Tests.{leb_no, leb_yes, and_no}
 use Rattle.script_terms.specs.Flat.{Item, noted, differing, checking}
 use Rattle.script_meaning.specs.Reading.{Seen, fits, nothing, with_record, with_differ, with_check}
 use Rattle.script_shelf.specs.Columns.{Laid, note_in, up_to}
@@ -103,27 +101,6 @@ begun {w} {w'} {c} {i} C h N =
 pub fitting-is : {s w : List ℕ} {c : Counts} {t : Seen} {fs : List Item} → Holding s w c t fs → fitting c ≡ fits t
 unfolding fitting
 fitting-is H = let N = H.counted in rw (N.symbols, N.parts, N.records, N.differs, N.checks)
-
-module _ (c : Counts) where
-  pub fits-tags : 1000 < c.symbols + c.parts → false ≡ fitting c
-  unfolding fitting
-  fits-tags h = rw (leb_no (c.symbols + c.parts) 1000 h)
-
-  pub fits-records : 4000 < c.records → false ≡ fitting c
-  unfolding fitting
-  fits-records h = rw (leb_no c.records 4000 h, and_no)
-
-  pub fits-differs : c.records ≤ 4000 → 500 < c.differs → false ≡ fitting c
-  unfolding fitting
-  fits-differs g h = rw (leb_yes c.records 4000 g, leb_no c.differs 500 h, and_no)
-
-  pub fits-checks : c.records ≤ 4000 → c.differs ≤ 500 → 1000 < c.checks → false ≡ fitting c
-  unfolding fitting
-  fits-checks g d h = rw (leb_yes c.records 4000 g, leb_yes c.differs 500 d, leb_no c.checks 1000 h, and_no)
-
-  pub fits_all : c.symbols + c.parts ≤ 1000 → c.records ≤ 4000 → c.differs ≤ 500 → c.checks ≤ 1000 → true ≡ fitting c
-  unfolding fitting
-  fits_all g h i j = rw (leb_yes (c.symbols + c.parts) 1000 g, leb_yes c.records 4000 h, leb_yes c.differs 500 i, leb_yes c.checks 1000 j)
 
 pub notes-equal : {w w' : List ℕ} {c c' : Counts} {a b : ℕ} → w' ≡ note_in w c.fields 1 a b 0 → c.fields ≤ 5500 → c'.symbols ≡ c.symbols → c'.parts ≡ c.parts → c'.records ≡ c.records + 1 → c'.differs ≡ c.differs → c'.checks ≡ c.checks → c'.fields ≡ c.fields + 1
     → Notes w w' c c' (noted (eq a b)) with_record

@@ -27,7 +27,7 @@ module _ {s w : List ℕ} {c : Counts} {at kind from to : ℕ} (R : Readable s w
         subst (λ f. Headed s t at 15 f number takes to') (sym L.from_is) (undeclared (L.says.own ∙ eqb_yes e) (ap (is_there t.symbols) (L.says.text (omega arith)) ∙ sym q.there-is ∙ z));
   }
 
-  pub head-declared : kind ≡ 6 → {there : Bool} {number takes : ℕ} → Looks s w c from to there number takes → there ≡ true → Heads s w c at 0 from number takes to
+  pub head-declared : kind ≡ 6 → {there : Bool} {number takes : ℕ} → Looks s w c from to there number takes → there ≡ true → Heads s w c at 0 0 number takes to
   head-declared e K z = record {
     headed = λ t fs H.
         let q = K.looked t fs H in

@@ -1,15 +1,14 @@
--- Two runs of bytes, in two lists or in one, compared byte by byte. Assumes nothing.
-use Prim.Native.Nat.{ℕ, suc, ◌+◌, ◌≤◌, ◌<◌}
+-- Two runs of bytes compared. Assumes nothing.
+use Prim.Native.Nat.{ℕ, zero, suc, ◌+◌, ◌-◌, ◌≤◌}
 use native.Mathlib.Omega.{arith}
-use native.Mathlib.Numerals.{add-one}
-use mathlib.Core.Path.{◌≡◌, refl, sym, ◌∙◌}
-use mathlib.Core.Logic.{◌≢◌}
-use mathlib.Core.Bool.{true, false}
+use mathlib.Core.Path.{◌≡◌, refl, sym, ◌∙◌, ap}
+use mathlib.Core.Bool.{Bool, true, ◌&&◌}
+use Rattle.std.specs.Cmp.Lexicographic.{pointwise}
 use mathlib.Core.List.{List, [], ◌∷◌}
 use lib.Dec.{T, eqb, eqb→eq}
-use lib.ListN.{length, get_or}
-use lib.Seq.{slice, slice_empty, slice-cons}
-use Rattle.script_terms.proofs.Tests.{both, eqb_yes, eqb_no}
+use lib.ListN.{take, drop}
+use lib.Seq.{slice, take-nil}
+use Rattle.script_terms.proofs.Tests.{both, eqb_yes}
 use Rattle.script_meaning.specs.Tokens.{same_bytes}
 
 pub bytes_one : (a b : List ℕ) → T (same_bytes a b) → a ≡ b
@@ -26,39 +25,26 @@ pub bytes-self : (a : List ℕ) → same_bytes a a ≡ true
 bytes-self [] = refl
 bytes-self (x ∷ a) = rw (eqb_yes {m = x} {n = x} refl) (bytes-self a)
 
-equal-step : (x y : ℕ) (a b : List ℕ) → x ≡ y → same_bytes (x ∷ a) (y ∷ b) ≡ same_bytes a b
-equal-step x y a b e = rw (eqb_yes e) refl
+-- Bytes compared by `==` are compared as the definition compares them.
+pub same-is : (a b : List ℕ) → pointwise eqb a b ≡ same_bytes a b
+same-is [] [] = refl
+same-is [] (y ∷ b) = refl
+same-is (x ∷ a) [] = refl
+same-is (x ∷ a) (y ∷ b) = ap (λ z. eqb x y && z) (same-is a b)
 
-unequal-step : (x y : ℕ) (a b : List ℕ) → x ≢ y → same_bytes (x ∷ a) (y ∷ b) ≡ false
-unequal-step x y a b d = rw (eqb_no d) refl
+-- The part of a list between two places, as code takes it.
+pub part-is : {a b : ℕ} (s : List ℕ) → a ≤ b → take (b - a) (drop a s) ≡ slice a b s
+part-is {a} {b} s h = let z : a + (b - a) ≡ b = omega arith in sym (middle a (b - a) s) ∙ ap (λ n. drop a (take n s)) z
+  where
+    middle : (f n : ℕ) (s : List ℕ) → drop f (take (f + n) s) ≡ take n (drop f s)
+    middle zero n s = ap (λ k. take k s) (let e : 0 + n ≡ n = omega arith in e)
+    middle (suc f) n [] = ap (drop (suc f)) (take-nil (suc f + n)) ∙ sym (take-nil n)
+    middle (suc f) n (x ∷ s) = ap (λ k. drop (suc f) (take k (x ∷ s))) (let e : suc f + n ≡ suc (f + n) = omega arith in e) ∙ middle f n s
 
--- While the bytes of s between two places are compared with those of v between two places.
-pub record Comparing (s v : List ℕ) (from to a b i j : ℕ) : Type 0 where
-  pub first : i ≤ to
-  pub second : j ≤ b
-  pub is : same_bytes (slice from to s) (slice a b v) ≡ same_bytes (slice i to s) (slice j b v)
+-- Two parts of a script compared by `==`.
+pub parts-same : {a b c d : ℕ} (s : List ℕ) {r : Bool} → a ≤ b → c ≤ d → r ≡ pointwise eqb (take (b - a) (drop a s)) (take (d - c) (drop c s)) → r ≡ same_bytes (slice a b s) (slice c d s)
+parts-same {a} {b} {c} {d} s g h e = e ∙ same-is (take (b - a) (drop a s)) (take (d - c) (drop c s)) ∙ rw (part-is s g, part-is s h)
 
-module _ {s v : List ℕ} {from to a b i j : ℕ} (f : to ≤ length s) (g : b ≤ length v) (C : Comparing s v from to a b i j) where
-  pub compare-on : i < to → j ≢ b → get_or s i 0 ≡ get_or v j 0 → Comparing s v from to a b (i + 1) (j + 1)
-  compare-on h d e =
-      let k : j < b = omega (arith, C.second) in
-      record { first = omega arith; second = omega arith; is = rw (add-one i, add-one j) (C.is ∙ rw (slice-cons i to s 0 h f, slice-cons j b v 0 k g) (equal-step (get_or s i 0) (get_or v j 0) (slice (suc i) to s) (slice (suc j) b v) e)) }
-
-  pub compare-differ : i < to → j ≢ b → get_or s i 0 ≢ get_or v j 0 → false ≡ same_bytes (slice from to s) (slice a b v)
-  compare-differ h d e =
-      let k : j < b = omega (arith, C.second) in
-      sym (C.is ∙ rw (slice-cons i to s 0 h f, slice-cons j b v 0 k g) (unequal-step (get_or s i 0) (get_or v j 0) (slice (suc i) to s) (slice (suc j) b v) e))
-
-  pub compare-short : i < to → j ≡ b → false ≡ same_bytes (slice from to s) (slice a b v)
-  compare-short h e = sym (C.is ∙ rw (slice-cons i to s 0 h f, e, slice_empty b v))
-
-  pub compare-long : to ≤ i → j ≢ b → false ≡ same_bytes (slice from to s) (slice a b v)
-  compare-long h d =
-      let k : j < b = omega (arith, C.second) in
-      let e : i ≡ to = omega (arith, C.first) in
-      sym (C.is ∙ rw (e, slice_empty to s, slice-cons j b v 0 k g))
-
-  pub compare-end : to ≤ i → j ≡ b → true ≡ same_bytes (slice from to s) (slice a b v)
-  compare-end h d =
-      let e : i ≡ to = omega (arith, C.first) in
-      sym (C.is ∙ rw (e, slice_empty to s, d, slice_empty b v))
+-- The same, of one part.
+pub part-same : {c d : ℕ} (l s : List ℕ) {r : Bool} → c ≤ d → r ≡ pointwise eqb l (take (d - c) (drop c s)) → r ≡ same_bytes l (slice c d s)
+part-same {c} {d} l s h e = e ∙ same-is l (take (d - c) (drop c s)) ∙ rw (part-is s h)

@@ -147,8 +147,10 @@ pub shelved : {s w : List ℕ} {c : Counts} {from to n key x head : ℕ} → Rea
 shelved {s} {w} {c} {from} {to} {n} {key} {x} {head} R e k f g =
     record { long = R.long; few = rw e R.few; order = R.order; within = R.within; inside = rw e R.inside; chain = rw (e, g, f, k) R.chain }
 
-pub looks-not : {s w : List ℕ} {c : Counts} {from to n j : ℕ} → n ≡ c.symbols → j ≡ name_in s w from to n → j ≡ 0 → (number takes : ℕ) → Looks s w c from to false number takes
-looks-not {s} {w} {c} {from} {to} e f z number takes = record { looked = λ t fs H. look-not H from to number takes (sym z ∙ f ∙ ap (name_in s w from to) e) }
+pub looks-not : {s w : List ℕ} {c : Counts} {from to n : ℕ} → n ≡ c.symbols → name_in s w from to n ≡ 0 → (number takes : ℕ) → Looks s w c from to false number takes
+looks-not {s} {w} {c} {from} {to} e f number takes = record { looked = λ t fs H. look-not H from to number takes (sym f ∙ ap (name_in s w from to) e) }
 
-pub looks-there : {s w : List ℕ} {c : Counts} {from to n j number takes : ℕ} → n ≡ c.symbols → j ≡ name_in s w from to n → j ≢ 0 → number ≡ j - 1 → takes ≡ get_or w (2002 + (j - 1)) 0 → Looks s w c from to true number takes
-looks-there {s} {w} {c} {from} {to} e f d u v = record { looked = λ t fs H. look-there H from to (f ∙ ap (name_in s w from to) e) d u v }
+pub looks-there : {s w : List ℕ} {c : Counts} {from to n k number takes : ℕ} → n ≡ c.symbols → name_in s w from to n ≡ k + 1 → number ≡ k → takes ≡ get_or w (2002 + k) 0 → Looks s w c from to true number takes
+looks-there {s} {w} {c} {from} {to} {k = k} e f u v =
+    let z : k + 1 - 1 ≡ k = omega arith in
+    record { looked = λ t fs H. look-there H from to (sym f ∙ ap (name_in s w from to) e) (omega arith) (u ∙ sym z) (v ∙ ap (λ i. get_or w (2002 + i) 0) (sym z)) }

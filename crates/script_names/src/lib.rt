@@ -1,49 +1,18 @@
 // Declared symbols: looked up by their names, which stand in the script itself, and declared. Document 02, No. 4.
 #![tactic(auto)]
 
-ghost use Rattle.std.specs.Prelude.{◌≡◌, ℕ, ◌+◌, ◌≤◌, ◌<◌, length, get_or};
+ghost use Rattle.std.specs.Prelude.{◌≡◌, ℕ, ◌+◌, ◌≤◌, ◌<◌, length, get_or, MatchOption, true, false};
 ghost use Rattle.std.proofs.Math.Seq.{slice};
-ghost use Rattle.script_meaning.specs.Tokens.{same_bytes};
 ghost use Rattle.script_shelf.specs.Shelf.{sum};
 ghost use Rattle.script_names.specs.Names.{fitting, name_in, Shelved, Ready, Looks, Room, Declares};
 
-use script_shelf::{Counts, cell, mark, wide};
+use script_shelf::{Counts, cell, mark, seek};
 
-// A symbol's number and its number of arguments, if it is there.
-#[derive(Clone, Copy)]
-pub struct Looked {
-    pub there: bool,
+// A declared symbol: its number and its number of arguments.
+#[derive(Clone, Copy, Debug, PartialEq, Eq)]
+pub struct Symbol {
     pub number: u16,
     pub takes: u16,
-}
-
-fn wide8(x: u8) -> usize
-    ensures { (result ≡ x) × (result < 256) }
-{
-    x as usize
-}
-
-// Whether the bytes between two places are those between two others.
-pub fn same_name(script: &[u8], from: usize, to: usize, a: usize, b: usize) -> bool
-    requires { (from ≤ to) × (to ≤ length script.now) × (a ≤ b) × (b ≤ length script.now) }
-    ensures { result ≡ same_bytes (slice from to script.now) (slice a b script.now) }
-{
-    let mut i = from;
-    let mut j = a;
-    while i < to {
-        if j == b {
-            return false;
-        }
-        if script[i] != script[j] {
-            return false;
-        }
-        i += 1;
-        j += 1;
-    }
-    if j != b {
-        return false;
-    }
-    true
 }
 
 // The key of a name, from its last byte to its first.
@@ -51,13 +20,11 @@ fn key_of(script: &[u8], from: usize, to: usize) -> usize
     requires { (from ≤ to) × (to ≤ length script.now) }
     ensures { (result ≡ sum (slice from to script.now)) × (result < 509) }
 {
-    let mut i = to;
-    let mut k = 0;
-    while from < i {
-        i -= 1;
-        k = (wide8(script[i]) + 31 * k) % 509;
+    let mut key = 0;
+    for i in (from..to).rev() {
+        key = (usize::from(script[i]) + 31 * key) % 509;
     }
-    k
+    key
 }
 
 // Whether symbol k has the name.
@@ -65,47 +32,46 @@ fn holds(script: &[u8], work: &[u16], k: usize, from: usize, to: usize) -> bool
     requires { (32768 ≤ length work.now) × (k < 1001) × (get_or work.now (0 + k) 0 ≤ get_or work.now (1001 + k) 0) × (get_or work.now (1001 + k) 0 ≤ length script.now) × (from ≤ to) × (to ≤ length script.now) }
     ensures { result ≡ fitting script.now work.now from to k }
 {
-    let a = wide(cell(work, script_shelf::FROM, k));
-    let b = wide(cell(work, script_shelf::TO, k));
-    same_name(script, a, b, from, to)
+    let a = usize::from(cell(work, script_shelf::FROM, k));
+    let b = usize::from(cell(work, script_shelf::TO, k));
+    script[a..b] == script[from..to]
 }
 
-// One more than the symbol with the name, or 0; `head` begins the chain of its key, and n symbols are declared.
-fn seek(script: &[u8], work: &[u16], n: usize, from: usize, to: usize, head: usize) -> usize
+// The symbol with the name, among n that are declared; `head` begins the chain of its key.
+fn find(script: &[u8], work: &[u16], n: usize, from: usize, to: usize, head: usize) -> Option<usize>
     requires { Shelved script.now work.now n from to head }
-    ensures { (result ≡ name_in script.now work.now from to n) × (result ≤ n) }
+    ensures { MatchOption result (name_in script.now work.now from to n ≡ 0) (λ k. (name_in script.now work.now from to n ≡ k + 1) × (k < n)) }
 {
-    let mut j = head;
-    while j != 0 {
-        if holds(script, work, j - 1, from, to) {
-            return j;
-        }
-        j = wide(cell(work, script_shelf::NAMED, j - 1));
-    }
-    0
+    seek(
+        work,
+        script_shelf::NAMED,
+        n,
+        head,
+        |k| holds(script, work, k, from, to),
+    )
 }
 
 // The symbol with the name that stands between two places of the script.
-pub fn look_up(script: &[u8], work: &[u16], counts: Counts, from: usize, to: usize) -> Looked
+pub fn look_up(
+    script: &[u8],
+    work: &[u16],
+    counts: Counts,
+    from: usize,
+    to: usize,
+) -> Option<Symbol>
     requires { Ready script.now work.now counts from to }
-    ensures { Looks script.now work.now counts from to result.there result.number result.takes }
+    ensures { MatchOption result (Looks script.now work.now counts from to false 0 0) (λ x. Looks script.now work.now counts from to true x.number x.takes) }
 {
-    let n = wide(counts.symbols);
+    let n = usize::from(counts.symbols);
     let key = key_of(script, from, to);
     let head = cell(work, script_shelf::NAMES, key);
-    let j = seek(script, work, n, from, to, wide(head));
-    if j == 0 {
-        return Looked {
-            there: false,
-            number: 0,
-            takes: 0,
-        };
-    }
-    Looked {
-        there: true,
-        number: (j - 1) as u16,
-        takes: cell(work, script_shelf::TAKES, j - 1),
-    }
+    let Some(k) = find(script, work, n, from, to, usize::from(head)) else {
+        return None;
+    };
+    Some(Symbol {
+        number: k as u16,
+        takes: cell(work, script_shelf::TAKES, k),
+    })
 }
 
 // The symbol with that name is declared.
@@ -133,10 +99,6 @@ pub fn declare(
     );
     Counts {
         symbols: counts.symbols + 1,
-        parts: counts.parts,
-        records: counts.records,
-        differs: counts.differs,
-        checks: counts.checks,
-        fields: counts.fields,
+        ..counts
     }
 }

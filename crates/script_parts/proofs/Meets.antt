@@ -177,8 +177,8 @@ shelved {w} {c} {a} {b} {n} {key} {x} {head} R e k f g =
     let m : n ≤ 1001 = omega (arith, R.parts) in
     record { long = R.long; few = m; chain = rw (e, g, f, k) R.chain }
 
-pub meets-old : {w : List ℕ} {c : Counts} {a b n j number : ℕ} → n ≡ c.parts → j ≡ pair_in w a b n → j ≢ 0 → number ≡ 1000 + j → Meets w w c c a b number
-meets-old {w} {c} {a} {b} {n} {j} {number} e f d u = record { met = λ s t fs p q M. met-old M (f ∙ ap (pair_in w a b) e) d u }
+pub meets-old : {w : List ℕ} {c : Counts} {a b n number : ℕ} (k : ℕ) → n ≡ c.parts → pair_in w a b n ≡ k + 1 → number ≡ 1001 + k → Meets w w c c a b number
+meets-old {w} {c} {a} {b} {n} {number} k e f u = record { met = λ s t fs p q M. met-old M (sym f ∙ ap (pair_in w a b) e) (omega arith) (omega arith) }
 
-pub meets-new : {w w' : List ℕ} {c c' : Counts} {a b n j key head number : ℕ} → n ≡ c.parts → j ≡ pair_in w a b n → j ≡ 0 → Put w w' c c' a b key head → key ≡ key_of a b → head ≡ get_or w (7516 + key) 0 → number ≡ 1001 + c.parts → Meets w w' c c' a b number
-meets-new {w} {w'} {c} {c'} {a} {b} {n} e f z P k h u = record { met = λ s t fs p q M. met-new M (sym z ∙ f ∙ ap (pair_in w a b) e) P k h u }
+pub meets-new : {w w' : List ℕ} {c c' : Counts} {a b n key head number : ℕ} → n ≡ c.parts → pair_in w a b n ≡ 0 → Put w w' c c' a b key head → key ≡ key_of a b → head ≡ get_or w (7516 + key) 0 → number ≡ 1001 + c.parts → Meets w w' c c' a b number
+meets-new {w} {w'} {c} {c'} {a} {b} {n} e f P k h u = record { met = λ s t fs p q M. met-new M (sym f ∙ ap (pair_in w a b) e) P k h u }

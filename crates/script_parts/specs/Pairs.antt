@@ -1,5 +1,5 @@
 -- Parts in the table by the numbers of their halves. Assumes nothing.
-use Rattle.std.specs.Prelude.{ℕ, ◌+◌, ◌*◌, ◌%◌, ◌≤◌, ◌≡◌, Bool, true, false, ◌&&◌, List, T, eqb, length, get_or}
+use Rattle.std.specs.Prelude.{ℕ, ◌+◌, ◌*◌, ◌%◌, ◌≤◌, ◌≡◌, Bool, ◌&&◌, List, eqb, length, get_or}
 use Rattle.script_shelf.specs.Chain.{last_of}
 use Rattle.script_shelf.specs.Columns.{note_in, file_in}
 use Rattle.script_shelf.specs.Keys.{Chain}
@@ -28,10 +28,6 @@ pub record Shelved (w : List ℕ) (n a b head : ℕ) : Type 0 where
   pub long : 32768 ≤ length w
   pub few : n ≤ 1001
   pub chain : Chain (key_in w) (λ k. get_or w (6515 + k) 0) n (key_of a b) head
-
-pub record Held (w : List ℕ) (k a b : ℕ) (r : Bool) : Type 0 where
-  pub yes : r ≡ true → T (fitting w a b k)
-  pub no : r ≡ false → T (fitting w a b k) → ⊥
 
 pub record Ready (w : List ℕ) (c : Counts) (a b : ℕ) : Type 0 where
   pub long : 32768 ≤ length w

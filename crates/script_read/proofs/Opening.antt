@@ -1,58 +1,61 @@
 -- The two commands in front, and the script's end, by what the code has. Assumes nothing.
 use Prim.Native.Nat.{ℕ, ◌-◌, ◌≤◌, ◌<◌}
 use native.Mathlib.Omega.{arith}
-use native.Mathlib.Decide.{ℕ_discrete}
 use mathlib.Core.Path.{◌≡◌, refl, sym, ◌∙◌, ap, subst}
 use mathlib.Core.Logic.{◌≢◌}
-use mathlib.Core.Bool.{Bool, true, false, not}
+use mathlib.Core.Bool.{Bool, true, false, not, ◌&&◌}
 use mathlib.Core.List.{List, []}
 use lib.Dec.{T, leb}
 use lib.ListN.{length}
 use lib.Seq.{slice, length-slice}
+use Rattle.std.specs.Prelude.{Result, Ok, Err}
 use Rattle.script_terms.specs.Terms.{Command}
-use Rattle.script_terms.proofs.Tests.{is_false, and_no, eqb_yes, eqb_no, leb_yes, leb_no}
-use Rattle.script_meaning.specs.Tokens.{bytes, same_bytes, reserved, core, Token, opening, closing, word, other, ended, Lexeme, lex, next, is_simple, is_word, text_of}
+use Rattle.script_terms.proofs.Tests.{is_false, eqb_yes, eqb_no, leb_yes, leb_no}
+use Rattle.script_meaning.specs.Tokens.{bytes, same_bytes, reserved, core, Token, opening, closing, word, other, ended, lex, next, is_simple, is_word, text_of}
 use Rattle.script_meaning.specs.Reading.{Got, fault, got, ◌>>=◌, must, want, is_opening, is_closing, is_ended, new_name}
 use Rattle.script_meaning.proofs.Matching.{bytes_one}
+use Rattle.script_shelf.specs.Refusals.{fault_number}
+use Rattle.script_shelf.specs.declared.refusal.Fault.TheVariants.{OutsideSubset, AgainstDeclarations, AboveLimit}
+use Rattle.script_shelf.specs.declared.refusal.Refusal.{Refusal}
+use Rattle.script_tokens.specs.declared.Lexeme.{Lexeme}
 use Rattle.script_words.specs.Words.{known, word_at, Read}
-use Rattle.script_steps.specs.Steps.{Outcome, refused, gave, Passed, Wanted}
-use Rattle.script_steps.proofs.Outcomes.{then-refused, then-gave, must-yes, must-no}
-use Rattle.script_steps.proofs.Stepping.{wanted-stop, wanted-then, wanted-on}
-use Rattle.script_read.specs.Script.{set_logic, declare_sort, LogicRead, LogicSet, no-logic-set, logic-set, SortFresh, SortNamed, SortSet, no-sort-set, sort-set, Left}
+use Rattle.script_steps.specs.Steps.{Passed, Wanted}
+use Rattle.script_steps.proofs.Outcomes.{refuse, then-refused, then-got, must-yes, must-no}
+use Rattle.script_steps.proofs.Stepping.{passed, here, simple-is, simple-from, name-order, wanted-stop, wanted-on, wanted-passed}
+use Rattle.script_read.specs.declared.Sort.{Sort}
+use Rattle.script_read.specs.Script.{set_logic, declare_sort, LogicRead, LogicSet, SortFresh, SortNamed, SortKept, SortSet, Left}
 
--- Outcomes as equations.
-pub stop-at : {A B : Type 0} {g : Got A} {P : A → Type 0} {n p : ℕ} → Outcome g P n p → n ≢ 0 → (f : A → Got B) → (g >>= f) ≡ fault n p
-unfolding ◌>>=◌
-stop-at (refused b i) d f = rw i
-stop-at (gave a i x) d f = absurd (d refl)
+-- Words that are asked for, in front of what is left to read.
+module _ {s : List ℕ} {at : ℕ} {B : Type 0} (k : ℕ → Got B) where
+  set-logic-stop : {e : Refusal} → Wanted s at 58 (Err e) → (want (is_word "set-logic") s at >>= k) ≡ fault (fault_number e.fault) e.place
+  unfolding known core reserved
+  set-logic-stop W = wanted-stop k W
 
-pub range-of : {A : Type 0} {g : Got A} {P : A → Type 0} {n p : ℕ} → Outcome g P n p → n ≢ 0 → (14 ≤ n) × (n ≤ 16)
-range-of (refused b i) d = b
-range-of (gave a i x) d = absurd (d refl)
+  set-logic-on : {x : Lexeme} → Wanted s at 58 (Ok x) → (want (is_word "set-logic") s at >>= k) ≡ k x.to
+  unfolding known core reserved
+  set-logic-on W = wanted-on k W
 
-pub go_on : {B : Type 0} {g : Got ℕ} {s : List ℕ} {at place to n p : ℕ} → Outcome g (Passed s at place to) n p → n ≡ 0 → (f : ℕ → Got B) → (g >>= f) ≡ f to
-unfolding ◌>>=◌
-go_on (refused b i) e f = absurd (let l : 14 ≤ _ = b.0 in omega arith)
-go_on (gave a i x) e f = rw (i, x.is)
+  declare-sort-stop : {e : Refusal} → Wanted s at 37 (Err e) → (want (is_word "declare-sort") s at >>= k) ≡ fault (fault_number e.fault) e.place
+  unfolding known core reserved
+  declare-sort-stop W = wanted-stop k W
 
--- Words that are asked for.
-set-logic-word : {s : List ℕ} {at n p to : ℕ} → Wanted s at 58 n p to → Outcome (want (is_word "set-logic") s at) (Passed s at p to) n p
-unfolding known core reserved
-set-logic-word W = W.out
+  declare-sort-on : {x : Lexeme} → Wanted s at 37 (Ok x) → (want (is_word "declare-sort") s at >>= k) ≡ k x.to
+  unfolding known core reserved
+  declare-sort-on W = wanted-on k W
 
-declare-sort-word : {s : List ℕ} {at n p to : ℕ} → Wanted s at 37 n p to → Outcome (want (is_word "declare-sort") s at) (Passed s at p to) n p
-unfolding known core reserved
-declare-sort-word W = W.out
+  nought-stop : {e : Refusal} → Wanted s at 60 (Err e) → (want (is_word "0") s at >>= k) ≡ fault (fault_number e.fault) e.place
+  unfolding known core reserved
+  nought-stop W = wanted-stop k W
 
-nought-word : {s : List ℕ} {at n p to : ℕ} → Wanted s at 60 n p to → Outcome (want (is_word "0") s at) (Passed s at p to) n p
-unfolding known core reserved
-nought-word W = W.out
+  nought-on : {x : Lexeme} → Wanted s at 60 (Ok x) → (want (is_word "0") s at >>= k) ≡ k x.to
+  unfolding known core reserved
+  nought-on W = wanted-on k W
 
-opening-token : {s : List ℕ} {at n p to : ℕ} → Wanted s at 3 n p to → Outcome (want is_opening s at) (Passed s at p to) n p
-opening-token W = W.out
+  logic-stop : {e : Refusal} → LogicRead s at (Err e) → (want (is_word "QF_UF") s at >>= k) ≡ fault (fault_number e.fault) e.place
+  logic-stop Q = then-refused (want (is_word "QF_UF") s at) k Q.out
 
-closing-token : {s : List ℕ} {at n p to : ℕ} → Wanted s at 4 n p to → Outcome (want is_closing s at) (Passed s at p to) n p
-closing-token W = W.out
+  logic-on : {x : Lexeme} → LogicRead s at (Ok x) → (want (is_word "QF_UF") s at >>= k) ≡ k x.to
+  logic-on {x = x} Q = let v : Q.out.value ≡ x.to = Q.out.holds.is in then-got (want (is_word "QF_UF") s at) k Q.out.is ∙ ap k v
 
 -- The logic's name.
 logic-as : (x : Token) → is_word "QF_UF" x ≡ same_bytes (bytes "QF_UF") (text_of x)
@@ -75,148 +78,132 @@ no-logic (word w) e =
 no-logic other e = refl
 no-logic ended e = refl
 
-module _ {s : List ℕ} {at kind from to : ℕ} (L : Read s at kind from to) where
-  passed : kind ≢ 0 → Passed s at from to (next (lex s at))
-  passed d = let h = L.says.some d in record { is = sym L.behind; place_is = L.from_is; on = omega (arith, L.on); inside = L.inside }
+module _ {s : List ℕ} {at kind : ℕ} (x : Lexeme) (L : Read s at kind x.from x.to) {b : Bool} (e : b ≡ (leb 6 kind && leb kind 16)) where
+  -- The logic's name is a simple symbol, as any word that is asked for by its bytes.
+  pub logic-outside : b ≡ false → LogicRead s at (refuse OutsideSubset x.from)
+  logic-outside f = record { out = here x L (must-no (is_word "QF_UF" (lex s at).token) 14 (lex s at).from (λ _. got (next (lex s at))) (no-logic (lex s at).token (simple-is x L e ∙ f))) }
 
-  simple-low : kind < 6 → is_simple (lex s at).token ≡ false
-  simple-low h = L.says.simple ∙ rw (leb_no 6 kind h)
+  module _ (f : b ≡ true) where
+    text-is : text_of (lex s at).token ≡ slice x.from x.to s
+    text-is = L.says.text (simple-from x L e f)
 
-  pub logic-low : kind < 6 → LogicRead s at 14 from to
-  logic-low h = record { out = rw L.from_is (must-no (is_word "QF_UF" (lex s at).token) 14 (lex s at).from (λ _. got (next (lex s at))) (no-logic (lex s at).token (simple-low h)) (omega arith, omega arith)) }
+    module _ {d : Bool} (g : d ≡ same_bytes (word_at 55) (slice x.from x.to s)) where
+      logic-is : is_word "QF_UF" (lex s at).token ≡ d
+      unfolding word_at known core reserved
+      logic-is = logic-as (lex s at).token ∙ ap (same_bytes (bytes "QF_UF")) text-is ∙ sym g
 
-  logic-is : 6 ≤ kind → {b : Bool} → b ≡ same_bytes (word_at 55) (slice from to s) → is_word "QF_UF" (lex s at).token ≡ b
-  unfolding word_at known core reserved
-  logic-is h e = logic-as (lex s at).token ∙ ap (same_bytes (bytes "QF_UF")) (L.says.text h) ∙ sym e
+      pub logic-it : d ≡ true → LogicRead s at (Ok x)
+      logic-it q = record {
+        out = record {
+          value = next (lex s at);
+          is = must-yes (is_word "QF_UF" (lex s at).token) 14 (lex s at).from (λ _. got (next (lex s at))) (logic-is ∙ q);
+          holds = let h = simple-from x L e f in passed x L (λ z. omega arith);
+        };
+      }
 
-  pub logic-it : 6 ≤ kind → {b : Bool} → b ≡ same_bytes (word_at 55) (slice from to s) → b ≡ true → LogicRead s at 0 from to
-  logic-it h e q = record { out = must-yes (is_word "QF_UF" (lex s at).token) 14 (lex s at).from (λ _. got (next (lex s at))) (logic-is h e ∙ q) (gave (next (lex s at)) refl (passed (λ z. omega arith))) }
-
-  pub logic-not : 6 ≤ kind → {b : Bool} → b ≡ same_bytes (word_at 55) (slice from to s) → b ≡ false → LogicRead s at 14 from to
-  logic-not h e q = record { out = rw L.from_is (must-no (is_word "QF_UF" (lex s at).token) 14 (lex s at).from (λ _. got (next (lex s at))) (logic-is h e ∙ q) (omega arith, omega arith)) }
+      pub logic-not : d ≡ false → LogicRead s at (refuse OutsideSubset x.from)
+      logic-not q = record { out = here x L (must-no (is_word "QF_UF" (lex s at).token) 14 (lex s at).from (λ _. got (next (lex s at))) (logic-is ∙ q)) }
 
   -- The sort's name.
-  pub sort-low : kind < 6 → SortNamed s at 14 from to
-  sort-low h = record { out = rw L.from_is (must-no (is_simple (lex s at).token) 14 (lex s at).from _ (simple-low h) (omega arith, omega arith)) }
+  pub sort-outside : b ≡ false → SortNamed s at (refuse OutsideSubset x.from)
+  sort-outside f = record { out = here x L (must-no (is_simple (lex s at).token) 14 (lex s at).from _ (simple-is x L e ∙ f)) }
 
-  pub sort-high : 16 < kind → SortNamed s at 14 from to
-  sort-high h = record { out = rw L.from_is (must-no (is_simple (lex s at).token) 14 (lex s at).from _ (L.says.simple ∙ rw (leb_no kind 16 h, and_no (leb 6 kind))) (omega arith, omega arith)) }
-
-  module _ (h : 6 ≤ kind) (i : kind ≤ 16) {b : Bool} (e : b ≡ same_bytes (word_at 54) (slice from to s)) where
-    bool_is : same_bytes (bytes "Bool") (text_of (lex s at).token) ≡ b
+  module _ (f : b ≡ true) {d : Bool} (g : d ≡ same_bytes (word_at 54) (slice x.from x.to s)) where
+    bool_is : same_bytes (bytes "Bool") (text_of (lex s at).token) ≡ d
     unfolding word_at known core reserved
-    bool_is = ap (same_bytes (bytes "Bool")) (L.says.text h) ∙ sym e
+    bool_is = ap (same_bytes (bytes "Bool")) (text-is f) ∙ sym g
 
-    simple-out : {n p : ℕ} → Outcome (must (not b) 15 (lex s at).from >>= λ _. must (leb (length (text_of (lex s at).token)) 32) 16 (lex s at).from >>= λ _. got (lex s at)) (SortFresh s at from to) n p
-        → Outcome (new_name (same_bytes (bytes "Bool")) s at) (SortFresh s at from to) n p
-    simple-out o = must-yes (is_simple (lex s at).token) 14 (lex s at).from _ (L.says.simple ∙ rw (leb_yes 6 kind h, leb_yes kind 16 i)) (rw bool_is o)
+    named : new_name (same_bytes (bytes "Bool")) s at ≡ (must (not d) 15 (lex s at).from >>= λ _. must (leb (length (text_of (lex s at).token)) 32) 16 (lex s at).from >>= λ _. got (lex s at))
+    named = must-yes (is_simple (lex s at).token) 14 (lex s at).from _ (simple-is x L e ∙ f) ∙ rw bool_is refl
 
-    pub sort-bool : b ≡ true → SortNamed s at 15 from to
-    sort-bool q = record { out = simple-out (rw L.from_is (must-no (not b) 15 (lex s at).from _ (rw q) (omega arith, omega arith))) }
+    pub sort-bool : d ≡ true → SortNamed s at (refuse AgainstDeclarations x.from)
+    sort-bool q = record { out = here x L (named ∙ must-no (not d) 15 (lex s at).from _ (rw q)) }
 
-    size_is : length (text_of (lex s at).token) ≡ to - from
-    size_is = ap length (L.says.text h) ∙ length-slice from to s L.inside
+    size_is : length (text_of (lex s at).token) ≡ x.to - x.from
+    size_is = ap length (text-is f) ∙ length-slice x.from x.to s L.inside
 
-    pub sort-long : b ≡ false → 32 < to - from → SortNamed s at 16 from to
+    pub sort-long : d ≡ false → 32 < x.to - x.from → SortNamed s at (refuse AboveLimit x.from)
     sort-long q l = record {
-      out = simple-out (must-yes (not b) 15 (lex s at).from _ (rw q)
-          (rw L.from_is (must-no (leb (length (text_of (lex s at).token)) 32) 16 (lex s at).from _ (leb_no (length (text_of (lex s at).token)) 32 (omega (arith, size_is))) (omega arith, omega arith))));
+      out = here x L (named ∙ must-yes (not d) 15 (lex s at).from _ (rw q) ∙ must-no (leb (length (text_of (lex s at).token)) 32) 16 (lex s at).from _ (leb_no (length (text_of (lex s at).token)) 32 (omega (arith, size_is))));
     }
 
-    pub sort-good : b ≡ false → to - from ≤ 32 → SortNamed s at 0 from to
+    pub sort-good : d ≡ false → x.to - x.from ≤ 32 → SortNamed s at (Ok x)
     sort-good q l = record {
-      out = simple-out (must-yes (not b) 15 (lex s at).from _ (rw q) (must-yes (leb (length (text_of (lex s at).token)) 32) 16 (lex s at).from _ (leb_yes (length (text_of (lex s at).token)) 32 (omega (arith, size_is)))
-          (gave (lex s at) refl (record { text = L.says.text h; behind = sym L.behind; order = L.says.some (λ z. omega arith); inside = L.inside }))));
+      out = record {
+        value = lex s at;
+        is = named ∙ must-yes (not d) 15 (lex s at).from _ (rw q) ∙ must-yes (leb (length (text_of (lex s at).token)) 32) 16 (lex s at).from _ (leb_yes (length (text_of (lex s at).token)) 32 (omega (arith, size_is)));
+        holds = record { text = text-is f; behind = sym L.behind; order = name-order x L e f; inside = L.inside };
+      };
     }
 
 -- set-logic.
-module _ {s : List ℕ} {n p inner : ℕ} (O : Wanted s 0 3 n p inner) where
-  pub logic-open : n ≢ 0 → {to : ℕ} → LogicSet s n p to
-  logic-open d = no-logic-set (range-of O.out d) (λ k. stop-at (opening-token O) d _)
+module _ {s : List ℕ} where
+  pub logic-open : {e : Refusal} → Wanted s 0 3 (Err e) → LogicSet s (Err e)
+  logic-open O = record { set = λ k. wanted-stop _ O }
 
-  module _ (e : n ≡ 0) {n₁ p₁ name : ℕ} (W : Wanted s inner 58 n₁ p₁ name) where
-    pub logic-word : n₁ ≢ 0 → {to : ℕ} → LogicSet s n₁ p₁ to
-    logic-word d = no-logic-set (range-of W.out d) (λ k. go_on (opening-token O) e _ ∙ stop-at (set-logic-word W) d _)
+  module _ {o : Lexeme} (O : Wanted s 0 3 (Ok o)) where
+    pub logic-word : {e : Refusal} → Wanted s o.to 58 (Err e) → LogicSet s (Err e)
+    logic-word W = record { set = λ k. wanted-on _ O ∙ set-logic-stop _ W }
 
-    module _ (f : n₁ ≡ 0) {n₂ p₂ behind : ℕ} (Q : LogicRead s name n₂ p₂ behind) where
-      pub logic-name : n₂ ≢ 0 → {to : ℕ} → LogicSet s n₂ p₂ to
-      logic-name d = no-logic-set (range-of Q.out d) (λ k. go_on (opening-token O) e _ ∙ go_on (set-logic-word W) f _ ∙ stop-at Q.out d _)
+    module _ {w : Lexeme} (W : Wanted s o.to 58 (Ok w)) where
+      pub logic-name : {e : Refusal} → LogicRead s w.to (Err e) → LogicSet s (Err e)
+      logic-name Q = record { set = λ k. wanted-on _ O ∙ set-logic-on _ W ∙ logic-stop _ Q }
 
-      pub logic-close : n₂ ≡ 0 → {n₃ p₃ to : ℕ} → Wanted s behind 4 n₃ p₃ to → LogicSet s n₃ p₃ to
-      logic-close g {n₃} {p₃} {to} C = decide (ℕ_discrete n₃ 0)
-        where
-          upto : (k : ℕ → Got (List Command)) → set_logic s k ≡ (want is_closing s behind >>= k)
-          upto k = go_on (opening-token O) e _ ∙ go_on (set-logic-word W) f _ ∙ go_on Q.out g _
+      module _ {q : Lexeme} (Q : LogicRead s w.to (Ok q)) where
+        pub logic-close : {e : Refusal} → Wanted s q.to 4 (Err e) → LogicSet s (Err e)
+        logic-close C = record { set = λ k. wanted-on _ O ∙ set-logic-on _ W ∙ logic-on _ Q ∙ wanted-stop k C }
 
-          decide : Dec (n₃ ≡ 0) → LogicSet s n₃ p₃ to
-          decide (yes z) = subst (λ n. LogicSet s n p₃ to) (sym z) (logic-set (λ k. upto k ∙ go_on (closing-token C) z k) (wanted-on C z).1)
-          decide (no d) = no-logic-set (range-of C.out d) (λ k. upto k ∙ stop-at (closing-token C) d k)
-
--- What the logic's name leaves behind.
-pub logic-behind : {s : List ℕ} {at n p to : ℕ} → LogicRead s at n p to → n ≡ 0 → to ≤ length s
-logic-behind Q e = go Q.out e
-  where
-    go : {g : Got ℕ} {s : List ℕ} {at n p to : ℕ} → Outcome g (Passed s at p to) n p → n ≡ 0 → to ≤ length s
-    go (refused b i) z = absurd (let l : 14 ≤ _ = b.0 in omega arith)
-    go (gave a i x) z = x.inside
+        pub logic-whole : {k : Lexeme} → Wanted s q.to 4 (Ok k) → LogicSet s (Ok k.to)
+        logic-whole C = record { set = (λ k. wanted-on _ O ∙ set-logic-on _ W ∙ logic-on _ Q ∙ wanted-on k C, (wanted-passed C).inside) }
 
 -- declare-sort.
-record Name (s : List ℕ) (at place to : ℕ) (g : Got Lexeme) : Type 0 where
-  x : Lexeme
-  is : g ≡ got x
-  sorted : SortFresh s at place to x
+module _ {s : List ℕ} {at : ℕ} where
+  pub sort-open : {e : Refusal} → Wanted s at 3 (Err e) → SortSet s at (Err e)
+  sort-open O = record { set = λ k. wanted-stop _ O }
 
-name_of : {g : Got Lexeme} {s : List ℕ} {at place to n p : ℕ} → Outcome g (SortFresh s at place to) n p → n ≡ 0 → Name s at place to g
-name_of (refused b i) e = absurd (let l : 14 ≤ _ = b.0 in omega arith)
-name_of (gave a i x) e = record { x = a; is = i; sorted = x }
+  module _ {o : Lexeme} (O : Wanted s at 3 (Ok o)) where
+    pub sort-word : {e : Refusal} → Wanted s o.to 37 (Err e) → SortSet s at (Err e)
+    sort-word W = record { set = λ k. wanted-on _ O ∙ declare-sort-stop _ W }
 
-pub name-places : {s : List ℕ} {at n place to : ℕ} → SortNamed s at n place to → n ≡ 0 → (place < to) × (to ≤ length s)
-name-places N e = let q = name_of N.out e in (q.sorted.order, q.sorted.inside)
+    module _ {w : Lexeme} (W : Wanted s o.to 37 (Ok w)) where
+      pub sort-name : {e : Refusal} → SortNamed s w.to (Err e) → SortSet s at (Err e)
+      sort-name N = record { set = λ k. wanted-on _ O ∙ declare-sort-on _ W ∙ then-refused (new_name (same_bytes (bytes "Bool")) s w.to) _ N.out }
 
-bind_is : {A B : Type 0} (g : Got A) (f : A → Got B) {a : A} → g ≡ got a → (g >>= f) ≡ f a
-unfolding ◌>>=◌
-bind_is g f e = rw e
-
-module _ {s : List ℕ} {at n p inner : ℕ} (O : Wanted s at 3 n p inner) where
-  pub sort-open : n ≢ 0 → {m q first last to : ℕ} → m ≡ n → q ≡ p → SortSet s at m q first last to
-  sort-open d u v = rw (u, v) (no-sort-set (range-of O.out d) (λ k. stop-at (opening-token O) d _))
-
-  module _ (e : n ≡ 0) {n₁ p₁ name : ℕ} (W : Wanted s inner 37 n₁ p₁ name) where
-    pub sort-word : n₁ ≢ 0 → {m q first last to : ℕ} → m ≡ n₁ → q ≡ p₁ → SortSet s at m q first last to
-    sort-word d u v = rw (u, v) (no-sort-set (range-of W.out d) (λ k. go_on (opening-token O) e _ ∙ stop-at (declare-sort-word W) d _))
-
-    module _ (f : n₁ ≡ 0) {n₂ place behind : ℕ} (N : SortNamed s name n₂ place behind) where
-      pub sort-name : n₂ ≢ 0 → {m q first last to : ℕ} → m ≡ n₂ → q ≡ place → SortSet s at m q first last to
-      sort-name d u v = rw (u, v) (no-sort-set (range-of N.out d) (λ k. go_on (opening-token O) e _ ∙ go_on (declare-sort-word W) f _ ∙ stop-at N.out d _))
-
-      module _ (g : n₂ ≡ 0) {n₃ p₃ ending : ℕ} (Z : Wanted s behind 60 n₃ p₃ ending) where
-        upto : (k : List ℕ → ℕ → Got (List Command)) → declare_sort s at k ≡ (want (is_word "0") s behind >>= λ b. want is_closing s b >>= λ b. k (slice place behind s) b)
+      module _ {x : Lexeme} (N : SortNamed s w.to (Ok x)) where
+        upto : (k : List ℕ → ℕ → Got (List Command)) → declare_sort s at k ≡ (want (is_word "0") s x.to >>= λ b. want is_closing s b >>= λ b. k (slice x.from x.to s) b)
         upto k =
-            let q = name_of N.out g in
-            go_on (opening-token O) e _ ∙ go_on (declare-sort-word W) f _ ∙ bind_is (new_name (same_bytes (bytes "Bool")) s name) _ q.is ∙ rw (q.sorted.behind, q.sorted.text)
+            let b : next N.out.value ≡ x.to = N.out.holds.behind in
+            let z : text_of N.out.value.token ≡ slice x.from x.to s = N.out.holds.text in
+            wanted-on _ O ∙ declare-sort-on _ W ∙ then-got (new_name (same_bytes (bytes "Bool")) s w.to) _ N.out.is ∙ rw (b, z) refl
 
-        pub sort-nought : n₃ ≢ 0 → {m q first last to : ℕ} → m ≡ n₃ → q ≡ p₃ → SortSet s at m q first last to
-        sort-nought d u v = rw (u, v) (no-sort-set (range-of Z.out d) (λ k. upto k ∙ stop-at (nought-word Z) d _))
+        pub sort-nought : {e : Refusal} → Wanted s x.to 60 (Err e) → SortSet s at (Err e)
+        sort-nought Z = record { set = λ k. upto k ∙ nought-stop _ Z }
 
-        module _ (h : n₃ ≡ 0) {n₄ p₄ to : ℕ} (C : Wanted s ending 4 n₄ p₄ to) where
-          pub sort-close : n₄ ≢ 0 → {m q first last to : ℕ} → m ≡ n₄ → q ≡ p₄ → SortSet s at m q first last to
-          sort-close d u v = rw (u, v) (no-sort-set (range-of C.out d) (λ k. upto k ∙ go_on (nought-word Z) h _ ∙ stop-at (closing-token C) d _))
+        module _ {z : Lexeme} (Z : Wanted s x.to 60 (Ok z)) where
+          pub sort-close : {e : Refusal} → Wanted s z.to 4 (Err e) → SortSet s at (Err e)
+          sort-close C = record { set = λ k. upto k ∙ nought-on _ Z ∙ wanted-stop _ C }
 
-          pub sort-good-set : n₄ ≡ 0 → {q : ℕ} → to ≤ length s → SortSet s at 0 q place behind to
-          sort-good-set i l = let y = name-places N g in let z : place ≤ behind = (let v = y.0 in omega arith) in sort-set (λ k. upto k ∙ go_on (nought-word Z) h _ ∙ go_on (closing-token C) i _) z y.1 l
+          pub sort-whole : {k : Lexeme} → Wanted s z.to 4 (Ok k) → SortSet s at (Ok (record { first = x.from; last = x.to; at = k.to }))
+          sort-whole C =
+              let y = N.out.holds.order in
+              record { set = record { onward = λ k. upto k ∙ nought-on _ Z ∙ wanted-on _ C; order = omega arith; within = N.out.holds.inside; inside = (wanted-passed C).inside } }
 
 -- exit.
-module _ {s : List ℕ} {at n p behind : ℕ} (C : Wanted s at 4 n p behind) where
-  pub leave-close : n ≢ 0 → Left s at n p
-  leave-close d = record { out = wanted-stop C _ d }
+module _ {s : List ℕ} {at : ℕ} where
+  pub leave-close : {e : Refusal} → Wanted s at 4 (Err e) → Left s at (Err e)
+  leave-close C = record { out = wanted-stop _ C }
 
-  module _ (e : n ≡ 0) {kind from to : ℕ} (L : Read s behind kind from to) where
-    pub leave-more : kind ≢ 0 → Left s at 14 from
+  module _ {k : Lexeme} (C : Wanted s at 4 (Ok k)) {kind from to : ℕ} (L : Read s k.to kind from to) where
+    pub leave-more : kind ≢ 0 → Left s at (refuse OutsideSubset from)
     leave-more d = record {
-      out = wanted-then C _ e (λ v. rw L.from_is (then-refused (want is_ended s behind) _ {P = λ b. b ≡ b} (must-no (is_ended (lex s behind).token) 14 (lex s behind).from (λ _. got (next (lex s behind))) (L.says.ends ∙ eqb_no d) (omega arith, omega arith)) (λ z. omega arith)));
+      out = wanted-on _ C ∙ then-refused (want is_ended s k.to) _ (must-no (is_ended (lex s k.to).token) 14 (lex s k.to).from (λ _. got (next (lex s k.to))) (L.says.ends ∙ eqb_no d)) ∙ ap (fault 14) (sym L.from_is);
     }
 
-    pub leave-last : kind ≡ 0 → Left s at 0 from
-    leave-last k = record {
-      out = wanted-then C _ e (λ v. then-gave (want is_ended s behind) _ {P = λ b. b ≡ b} {n = 0} {p = 0} (must-yes (is_ended (lex s behind).token) 14 (lex s behind).from (λ _. got (next (lex s behind))) (L.says.ends ∙ eqb_yes k) (gave (next (lex s behind)) refl refl)) refl (λ b x. gave [] refl refl));
+    pub leave-last : kind ≡ 0 → Left s at (Ok tt)
+    leave-last z = record {
+      out = record {
+        value = [];
+        is = wanted-on _ C ∙ then-got (want is_ended s k.to) _ (must-yes (is_ended (lex s k.to).token) 14 (lex s k.to).from (λ _. got (next (lex s k.to))) (L.says.ends ∙ eqb_yes z));
+        holds = refl;
+      };
     }

@@ -7,7 +7,7 @@ use mathlib.Core.Bool.{Bool, true, false}
 use mathlib.Core.List.Memᴰ
 use mathlib.Core.List.{List, [], ◌∷◌, ◌++◌, map, append_assoc, append-nil, Memᴰ}
 use lib.Dec.{eqb}
-use lib.ListN.{length, drop}
+use lib.ListN.{length, take, drop}
 use lib.Seq.{slice}
 use Rattle.script_terms.specs.Terms.{Command, declare, equal, differ, check, arities_of}
 use Rattle.script_terms.specs.Flat.{Part, symbol, applied, place, after, parts_from, record_of, Item, noted, new_items, own_of, items_from, parts_of}
@@ -18,18 +18,26 @@ use Rattle.script_terms.proofs.Script.{after-grown}
 use Rattle.script_meaning.specs.Tokens.{lex, is_word, core, reserved}
 use Rattle.script_meaning.specs.Reading.{Got, fault, got, ◌>>=◌, either, Seen, Done, command, leave, commands_at, nothing, reading}
 use Rattle.script_meaning.proofs.Accepted.{taking}
+use Rattle.script_meaning.proofs.Matching.{part-is}
 use Rattle.script_meaning.proofs.Said.{command-stepped}
 use Rattle.script_meaning.proofs.Laws.{tag-grown, place-below}
 use Rattle.script_shelf.specs.Shelf.{Standing}
 use Rattle.script_shelf.specs.declared.Counts.{Counts}
+use Rattle.script_shelf.specs.Refusals.{fault_number}
+use Rattle.script_shelf.specs.declared.refusal.Refusal.{Refusal}
+use Rattle.script_tokens.specs.declared.Lexeme.{Lexeme}
+use Rattle.std.specs.Prelude.{Result, Ok, Err}
 use Rattle.script_parts.specs.Meet.{new_parts}
 use Rattle.script_fields.specs.Fields.{Begun}
 use Rattle.script_join.specs.Promises.{Start}
 use Rattle.script_words.specs.Words.{known, Read}
-use Rattle.script_steps.specs.Steps.{Outcome, refused, gave, Passed, Wanted}
+use Rattle.script_steps.specs.Steps.{Wanted}
+use Rattle.script_steps.proofs.Outcomes.{then-refused, then-got, either-yes, either-no, as-of}
+use Rattle.script_steps.proofs.Stepping.{wanted-stop, wanted-on, wanted-passed}
+use Rattle.script_commands.specs.declared.Done.{Done as Over}
 use Rattle.script_commands.specs.Commands.{CommandAsk, Made, Does}
-use Rattle.script_read.specs.Script.{set_logic, declare_sort, LogicSet, no-logic-set, logic-set, SortSet, no-sort-set, sort-set, Left, CommandsAsk, CommandsRead, ScriptRead}
-use Rattle.script_read.proofs.Opening.{stop-at, range-of, go_on}
+use Rattle.script_read.specs.declared.Sort.{Sort}
+use Rattle.script_read.specs.Script.{set_logic, declare_sort, LogicSet, SortSet, Left, CommandsAsk, Whole, CommandsRead, ScriptRead}
 
 -- One command more behind those that there are.
 items_more : (S : ℕ) (all l : List Part) (cs : List Command) (c : Command) → items_from S all l (cs ++ c ∷ []) ≡ items_from S all l cs ++ (new_items S all (parts_from l cs) c ++ own_of S all c)
@@ -79,25 +87,13 @@ unfolding ◌>>=◌
 bind-nil (fault n p) = refl
 bind-nil (got ds) = refl
 
-pub run-start : {s u w : List ℕ} {c : Counts} {first last start : ℕ} → CommandsAsk s w c first last start → Running s u w c start start
+pub run-start : {s u w : List ℕ} {c : Counts} {start : ℕ} → CommandsAsk s w c start → Running s u w c start start
 run-start A = record { cs = []; now = nothing; fields = []; holds = A.begun; parts = refl; arities = refl; items = λ all g. refl; inside = A.inside; left = λ g h k l. h k l ∙ bind-nil g }
 
 bind-more : (cs : List Command) (c : Command) (g : Got (List Command)) → ((g >>= λ ds. got (c ∷ ds)) >>= λ ds. got (cs ++ ds)) ≡ (g >>= λ ds. got ((cs ++ c ∷ []) ++ ds))
 unfolding ◌>>=◌
 bind-more cs c (fault n p) = refl
 bind-more cs c (got ds) = ap got (sym (append_assoc cs (c ∷ []) ds))
-
-either-is-no : {A : Type 0} (b : Bool) (f g : Unit {0} → A) → b ≡ false → either b f g ≡ g tt
-unfolding either
-either-is-no b f g e = rw e
-
-either-is-yes : {A : Type 0} (b : Bool) (f g : Unit {0} → A) → b ≡ true → either b f g ≡ f tt
-unfolding either
-either-is-yes b f g e = rw e
-
-bind_is : {A B : Type 0} (g : Got A) (f : A → Got B) {a : A} → g ≡ got a → (g >>= f) ≡ f a
-unfolding ◌>>=◌
-bind_is g f e = rw e
 
 fault-on : {A B : Type 0} {n p : ℕ} (f : A → Got B) → (fault n p >>= f) ≡ fault n p
 unfolding ◌>>=◌
@@ -112,63 +108,54 @@ module _ {s u w : List ℕ} {c : Counts} {start at : ℕ} (R : Running s u w c s
   run-ask l h = record { inside = h; short = l; seen = R.now; fields = R.fields; start = R.holds }
 
   -- A refusal here is the whole's.
-  stopped : {w' : List ℕ} {c' : Counts} {n p : ℕ} → (14 ≤ n) × (n ≤ 16) → ((k : ℕ) → length s - at < k → commands_at k s u R.now at ≡ fault n p) → CommandsRead s u w' c' start n p
-  stopped {n = n} {p = p} b h = record { out = refused b (R.left (fault n p) h (suc (length s)) (omega arith) ∙ fault-on _) }
+  stopped : {w' : List ℕ} {e : Refusal} → ((k : ℕ) → commands_at (suc k) s u R.now at ≡ fault (fault_number e.fault) e.place) → CommandsRead s u w' start (Err e)
+  stopped {e = e} h = record { out = R.left (fault (fault_number e.fault) e.place) (some h) (suc (length s)) (omega arith) ∙ fault-on _ }
+    where
+      some : {g : Got (List Command)} → ((k : ℕ) → commands_at (suc k) s u R.now at ≡ g) → (k : ℕ) → length s - at < k → commands_at k s u R.now at ≡ g
+      some h zero l = absurd (omega arith)
+      some h (suc k) l = h k
 
-  module _ {n p inner : ℕ} (O : Wanted s at 3 n p inner) where
-    pub run-open : n ≢ 0 → {w' : List ℕ} {c' : Counts} {m q : ℕ} → m ≡ n → q ≡ p → CommandsRead s u w' c' start m q
-    run-open d e f = rw (e, f) (stopped (range-of O.out d) step)
-      where
-        step : (k : ℕ) → length s - at < k → commands_at k s u R.now at ≡ fault n p
-        step zero l = absurd (omega arith)
-        step (suc k) l = stop-at O.out d _
+  pub run-open : {e : Refusal} → Wanted s at 3 (Err e) → {w' : List ℕ} → CommandsRead s u w' start (Err e)
+  run-open O = stopped (λ k. wanted-stop _ O)
 
-    -- Behind the last byte there is no token.
-    pub run-over : length s ≤ at → {w' : List ℕ} {c' : Counts} {m q : ℕ} → m ≡ n → q ≡ p → CommandsRead s u w' c' start m q
-    run-over l e f = run-open (λ z. none O.out z) e f
-      where
-        none : {g : Got ℕ} {n : ℕ} → Outcome g (Passed s at p inner) n p → n ≡ 0 → ⊥
-        none (refused b i) z = let l : 14 ≤ _ = b.0 in omega arith
-        none (gave a i x) z = omega (arith, x.on, x.inside)
+  module _ {o : Lexeme} (O : Wanted s at 3 (Ok o)) {kind from to : ℕ} (L : Read s o.to kind from to) where
+    exit-is : is_word "exit" (lex s o.to).token ≡ eqb kind 43
+    unfolding known core reserved
+    exit-is = L.says.word 36 (omega arith)
 
-    module _ (e₀ : n ≡ 0) {kind from to : ℕ} (L : Read s inner kind from to) where
-      exit-is : is_word "exit" (lex s inner).token ≡ eqb kind 43
-      unfolding known core reserved
-      exit-is = L.says.word 36 (omega arith)
+    -- exit.
+    module _ (z : kind ≡ 43) where
+      at-leave : (k : ℕ) → commands_at (suc k) s u R.now at ≡ leave s to
+      at-leave k = wanted-on _ O ∙ either-yes (is_word "exit" (lex s o.to).token) _ _ (exit-is ∙ eqb_yes z) ∙ ap (leave s) (sym L.behind)
 
-      -- exit.
-      at-leave : kind ≡ 43 → (k : ℕ) → commands_at (suc k) s u R.now at ≡ leave s to
-      at-leave e k = go_on O.out e₀ _ ∙ either-is-yes (is_word "exit" (lex s inner).token) _ _ (exit-is ∙ eqb_yes e) ∙ ap (leave s) (sym L.behind)
+      pub run-stay : {e : Refusal} → Left s to (Err e) → {w' : List ℕ} → CommandsRead s u w' start (Err e)
+      run-stay E = stopped (λ k. at-leave k ∙ E.out)
 
-      pub run-leave : kind ≡ 43 → {m q m' q' : ℕ} {c' : Counts} → Left s to m q → m' ≡ m → q' ≡ q → c' ≡ c → CommandsRead s u w c' start m' q'
-      run-leave e {m} {q} E f g h = rw (f, g, h) (go E.out)
+      pub run-leave : Left s to (Ok tt) → CommandsRead s u w start (Ok c)
+      run-leave E = record {
+        out = record {
+          value = R.cs;
+          is = R.left (got []) upto (suc (length s)) (omega arith) ∙ got-on [] _ ∙ ap got (append-nil R.cs);
+          holds = record { seen = R.now; start = subst (λ f. Start s w c R.now f) (R.items (parts_of R.cs) (subst (λ l. Grown R.now.parts l) R.parts (grown-same R.now.parts))) R.holds; parts = R.parts; arities = R.arities };
+        };
+      }
         where
-          upto : {a : Got (List Command)} → leave s to ≡ a → (k : ℕ) → length s - at < k → commands_at k s u R.now at ≡ a
-          upto i zero l = absurd (omega arith)
-          upto i (suc k) l = at-leave e k ∙ i
+          upto : (k : ℕ) → length s - at < k → commands_at k s u R.now at ≡ got []
+          upto zero l = absurd (omega arith)
+          upto (suc k) l = at-leave k ∙ E.out.is ∙ ap got E.out.holds
 
-          go : {m : ℕ} → Outcome (leave s to) (λ cs. cs ≡ []) m q → CommandsRead s u w c start m q
-          go (refused b i) = stopped b (upto i)
-          go (gave a i x) = record {
-            out = gave R.cs (R.left (got []) (upto (i ∙ ap got x)) (suc (length s)) (omega arith) ∙ got-on [] _ ∙ ap got (append-nil R.cs))
-                (record { seen = R.now; start = subst (λ f. Start s w c R.now f) (R.items (parts_of R.cs) (subst (λ l. Grown R.now.parts l) R.parts (grown-same R.now.parts))) R.holds; parts = R.parts; arities = R.arities });
-          }
+    module _ (d : kind ≢ 43) where
+      at-command : (k : ℕ) → commands_at (suc k) s u R.now at ≡ (command s u R.now o.to >>= λ r. commands_at k s u r.seen r.behind >>= λ cs. got (r.command ∷ cs))
+      at-command k = wanted-on _ O ∙ either-no (is_word "exit" (lex s o.to).token) _ _ (exit-is ∙ eqb_no d)
 
-      module _ (x : kind ≢ 43) where
-        at-command : (k : ℕ) → commands_at (suc k) s u R.now at ≡ (command s u R.now inner >>= λ r. commands_at k s u r.seen r.behind >>= λ cs. got (r.command ∷ cs))
-        at-command k = go_on O.out e₀ _ ∙ either-is-no (is_word "exit" (lex s inner).token) _ _ (exit-is ∙ eqb_no x)
+      module _ {w' : List ℕ} where
+        pub run-refused : {e : Refusal} → Does (λ t. command s u t o.to) s w w' c o.to (Err e) → CommandsRead s u w' start (Err e)
+        run-refused D = stopped (λ k. at-command k ∙ then-refused (command s u R.now o.to) _ (D.does R.now R.fields R.holds))
 
-        module _ {w' : List ℕ} {c' : Counts} {n₁ p₁ to' : ℕ} (D : Does (λ t. command s u t inner) s w w' c c' inner n₁ p₁ to') where
-          pub run-refused : n₁ ≢ 0 → {w'' : List ℕ} {c'' : Counts} → CommandsRead s u w'' c'' start n₁ p₁
-          run-refused d = stopped (range-of (D.does R.now R.fields R.holds) d) step
-            where
-              step : (k : ℕ) → length s - at < k → commands_at k s u R.now at ≡ fault n₁ p₁
-              step zero l = absurd (omega arith)
-              step (suc k) l = at-command k ∙ stop-at (D.does R.now R.fields R.holds) d _
-
-          on-with : (d : Done) → command s u R.now inner ≡ got d → Made s w' c' R.now R.fields inner to' d → at < inner → Running s u w' c' start to'
+        module _ {x : Over} (D : Does (λ t. command s u t o.to) s w w' c o.to (Ok x)) where
+          on-with : (d : Done) → command s u R.now o.to ≡ got d → Made s w' R.now R.fields o.to d x → at < o.to → Running s u w' x.counts start x.at
           on-with d i m l =
-              let S = command-stepped s u R.now inner i in
+              let S = command-stepped s u R.now o.to i in
               let g₁ : Grown R.now.parts d.seen.parts = subst (λ y. Grown R.now.parts y) (sym S.parts) (after-grown R.now.parts d.command) in
               record {
                 cs = R.cs ++ d.command ∷ [];
@@ -195,66 +182,38 @@ module _ {s u w : List ℕ} {c : Counts} {start at : ℕ} (R : Running s u w c s
                   ∙ ap (λ y. items_from 1001 all [] R.cs ++ (new_items 1001 all y d.command ++ own_of 1001 all d.command)) R.parts
                   ∙ sym (items_more 1001 all [] R.cs d.command)
 
-              step : (g : Got (List Command)) → ((k : ℕ) → length s - to' < k → commands_at k s u d.seen to' ≡ g) → (k : ℕ) → length s - at < k → commands_at k s u R.now at ≡ (g >>= λ ds. got (d.command ∷ ds))
+              step : (g : Got (List Command)) → ((k : ℕ) → length s - x.at < k → commands_at k s u d.seen x.at ≡ g) → (k : ℕ) → length s - at < k → commands_at k s u R.now at ≡ (g >>= λ ds. got (d.command ∷ ds))
               step g h zero b = absurd (omega arith)
               step g h (suc k) b =
-                  at-command k ∙ bind_is (command s u R.now inner) _ i ∙ ap (λ y. commands_at k s u d.seen y >>= λ cs. got (d.command ∷ cs)) m.behind
+                  at-command k ∙ then-got (command s u R.now o.to) _ i ∙ ap (λ y. commands_at k s u d.seen y >>= λ cs. got (d.command ∷ cs)) m.behind
                   ∙ ap (λ y. y >>= λ cs. got (d.command ∷ cs)) (h k (omega (arith, m.on, m.inside)))
 
-          pub run_on : n₁ ≡ 0 → at < inner → Running s u w' c' start to'
-          run_on e l = go (D.does R.now R.fields R.holds) e
-            where
-              go : {n p : ℕ} → Outcome (command s u R.now inner) (Made s w' c' R.now R.fields inner to') n p → n ≡ 0 → Running s u w' c' start to'
-              go (refused b i) z = absurd (let l : 14 ≤ _ = b.0 in omega arith)
-              go (gave a i x) z = on-with a i x l
+          pub run_on : Running s u w' x.counts start x.at
+          run_on = let g = D.does R.now R.fields R.holds in on-with g.value g.is g.holds (wanted-passed O).on
 
-          pub run-further : n₁ ≡ 0 → inner ≤ to'
-          run-further e = go (D.does R.now R.fields R.holds) e
-            where
-              go : {n p : ℕ} → Outcome (command s u R.now inner) (Made s w' c' R.now R.fields inner to') n p → n ≡ 0 → inner ≤ to'
-              go (refused b i) z = absurd (let l : 14 ≤ _ = b.0 in omega arith)
-              go (gave a i x) z = x.on
+          pub run-further : (at < x.at) × (x.at ≤ length s)
+          run-further = let g = D.does R.now R.fields R.holds in (omega (arith, g.holds.on, (wanted-passed O).on), g.holds.inside)
 
 -- The whole.
 reading-is : (s : List ℕ) → reading s ≡ set_logic s (λ b. declare_sort s b (λ u b. commands_at (suc (length s)) s u nothing b))
 unfolding reading
 reading-is s = refl
 
-as-of : {A : Type 0} {g h : Got A} {P : A → Type 0} {n p : ℕ} → g ≡ h → Outcome h P n p → Outcome g P n p
-as-of e (refused b i) = refused b (e ∙ i)
-as-of e (gave a i x) = gave a (e ∙ i) x
+pub script-logic : {s w : List ℕ} {e : Refusal} → LogicSet s (Err e) → ScriptRead s w (Err e)
+script-logic {s} L = record { out = reading-is s ∙ L.set _ }
 
-pub logic-ask : {s : List ℕ} {n p to : ℕ} → LogicSet s n p to → n ≡ 0 → to ≤ length s
-logic-ask (no-logic-set b h) e = absurd (let l : 14 ≤ _ = b.0 in omega arith)
-logic-ask (logic-set h l) e = l
+module _ {s : List ℕ} {at : ℕ} (L : LogicSet s (Ok at)) where
+  logic-on : reading s ≡ declare_sort s at (λ u b. commands_at (suc (length s)) s u nothing b)
+  logic-on = reading-is s ∙ L.set.0 _
 
-pub script-logic : {s w : List ℕ} {c : Counts} {n p to : ℕ} → LogicSet s n p to → n ≢ 0 → ScriptRead s w c n p
-script-logic {s} (no-logic-set b h) d = record { out = refused b (reading-is s ∙ h _) }
-script-logic (logic-set h l) d = absurd (d refl)
+  pub script-sort : {w : List ℕ} {e : Refusal} → SortSet s at (Err e) → ScriptRead s w (Err e)
+  script-sort Z = record { out = logic-on ∙ Z.set (λ u b. commands_at (suc (length s)) s u nothing b) }
 
-logic-on : {s : List ℕ} {n p to : ℕ} → LogicSet s n p to → n ≡ 0 → reading s ≡ declare_sort s to (λ u b. commands_at (suc (length s)) s u nothing b)
-logic-on (no-logic-set b h) e = absurd (let l : 14 ≤ _ = b.0 in omega arith)
-logic-on {s} (logic-set h l) e = reading-is s ∙ h _
+  -- The sort's name as the code takes it from the script.
+  pub script-whole : {x : Sort} → SortSet s at (Ok x) → {w : List ℕ} (r : Result Counts Refusal) → CommandsRead s (take (x.last - x.first) (drop x.first s)) w x.at r → ScriptRead s w r
+  script-whole {x} Z {w} r C =
+      let e : commands_at (suc (length s)) s (take (x.last - x.first) (drop x.first s)) nothing x.at ≡ commands_at (suc (length s)) s (slice x.first x.last s) nothing x.at = ap (λ u. commands_at (suc (length s)) s u nothing x.at) (part-is s Z.set.order) in
+      record { out = as-of (Whole s w) r (logic-on ∙ Z.set.onward (λ u b. commands_at (suc (length s)) s u nothing b) ∙ sym e) C.out }
 
-pub record SortPlaces (s : List ℕ) (first last to : ℕ) : Type 0 where
-  pub order : first ≤ last
-  pub within : last ≤ length s
-  pub inside : to ≤ length s
-
-pub sort-places : {s : List ℕ} {at n p first last to : ℕ} → SortSet s at n p first last to → n ≡ 0 → SortPlaces s first last to
-sort-places (no-sort-set b h) e = absurd (let l : 14 ≤ _ = b.0 in omega arith)
-sort-places (sort-set h a b l) e = record { order = a; within = b; inside = l }
-
-pub script-sort : {s w : List ℕ} {c : Counts} {n p at m q first last to : ℕ} → LogicSet s n p at → n ≡ 0 → SortSet s at m q first last to → m ≢ 0 → ScriptRead s w c m q
-script-sort {s} L e (no-sort-set b h) d = record { out = refused b (logic-on L e ∙ h (λ u b. commands_at (suc (length s)) s u nothing b)) }
-script-sort L e (sort-set h a b l) d = absurd (d refl)
-
-sort-onward : {s : List ℕ} {at n p first last to : ℕ} → SortSet s at n p first last to → n ≡ 0 → (k : List ℕ → ℕ → Got (List Command)) → declare_sort s at k ≡ k (slice first last s) to
-sort-onward (no-sort-set b h) e k = absurd (let l : 14 ≤ _ = b.0 in omega arith)
-sort-onward (sort-set h a b l) e k = h k
-
-pub script-whole : {s w : List ℕ} {c : Counts} {n p at m q first last to n' p' : ℕ} → LogicSet s n p at → n ≡ 0 → SortSet s at m q first last to → m ≡ 0 → CommandsRead s (slice first last s) w c to n' p' → ScriptRead s w c n' p'
-script-whole {s} L e Z f C = record { out = as-of (logic-on L e ∙ sort-onward Z f (λ u b. commands_at (suc (length s)) s u nothing b)) C.out }
-
-pub commands-ask : {s w₀ w : List ℕ} {c : Counts} {first last to : ℕ} → Begun w₀ w c → length s ≤ 60000 → SortPlaces s first last to → CommandsAsk s w c first last to
-commands-ask {s} B l P = record { short = l; order = P.order; within = P.within; inside = P.inside; begun = record { holding = B.holding s; within = refl } }
+pub commands-ask : {s w₀ w : List ℕ} {c : Counts} {at : ℕ} {x : Sort} → Begun w₀ w c → length s ≤ 60000 → SortSet s at (Ok x) → CommandsAsk s w c x.at
+commands-ask {s} B l Z = record { short = l; inside = Z.set.inside; begun = record { holding = B.holding s; within = refl } }

@@ -57,12 +57,6 @@ module _ (f : ℕ → Bool) {key next : ℕ → ℕ} {n x head : ℕ} (same : (k
   seek_hit {j = zero} d Z t = absurd (d refl)
   seek_hit {j = suc k} d Z t = sym (Z.is ∙ last-hit f k (subst (λ i. T (f i)) (let e : suc k - 1 ≡ k = omega arith in e) t))
 
-  pub seek-falls : {j : ℕ} → j ≢ 0 → Seeking f key n x j → next (j - 1) < j
-  seek-falls {j = zero} d Z = absurd (d refl)
-  seek-falls {j = suc k} d Z =
-      let z : suc k - 1 ≡ k = omega arith in
-      subst (λ i. next i < suc k) (sym z) (omega (arith, C.links-are k Z.most, last-most (λ i. eqb (key i) (key k)) k))
-
   pub seek-none : {j : ℕ} → j ≡ 0 → Seeking f key n x j → 0 ≡ last_of f n
   seek-none e Z = sym (Z.is ∙ ap (last_of f) e)
 

@@ -3,6 +3,13 @@
 
 ghost use Rattle.std.specs.Prelude.{◌≡◌, ℕ, ◌+◌, ◌≤◌, ◌<◌, length, get_or, set};
 ghost use Rattle.script_shelf.specs.Columns.{note_in, file_in, mark_in};
+ghost use Rattle.script_shelf.specs.Shelf.{kind_of, first_of, second_of, third_of};
+ghost use Rattle.script_shelf.specs.Items.{item_of};
+ghost use Rattle.script_shelf.specs.Search.{Linked, Sought};
+
+mod refusal;
+
+pub use refusal::{Fault, Refusal};
 
 pub const FROM: usize = 0;
 
@@ -30,8 +37,20 @@ pub const SECOND: usize = 19027;
 
 pub const THIRD: usize = 24528;
 
+// A field of the job by its tags: the 01 of an equality, the 02 of a part, the 05 of a negated equality, the 06 of a check-sat.
+#[derive(Clone, Copy, Debug, PartialEq, Eq)]
+pub enum Field {
+    Equal(u16, u16),
+    Applied(u16, u16, u16),
+    Differing(u16, u16),
+    Check,
+}
+
+// How many keys there are, by which names and parts are filed.
+pub const KEYS: usize = 509;
+
 // How many of each there are in the table.
-#[derive(Clone, Copy)]
+#[derive(Clone, Copy, Debug, PartialEq, Eq)]
 pub struct Counts {
     pub symbols: u16,
     pub parts: u16,
@@ -39,12 +58,6 @@ pub struct Counts {
     pub differs: u16,
     pub checks: u16,
     pub fields: u16,
-}
-
-pub fn wide(x: u16) -> usize
-    ensures { result ≡ x }
-{
-    x as usize
 }
 
 // The number that stands at a place of a column.
@@ -64,11 +77,18 @@ pub fn store(work: &mut [u16], column: usize, i: usize, v: u16)
 }
 
 // One more field.
-pub fn note(work: &mut [u16], n: u16, kind: u16, first: u16, second: u16, third: u16)
+#[tactic(auto, unfolding(crate::specs::Columns::note_in))]
+pub fn note(work: &mut [u16], n: u16, field: Field)
     requires { (32768 ≤ length work.old) × (n ≤ 5500) }
-    ensures { work.new ≡ note_in work.old n kind first second third }
+    ensures { work.new ≡ note_in work.old n (kind_of (item_of field)) (first_of (item_of field)) (second_of (item_of field)) (third_of (item_of field)) }
 {
-    let i = wide(n);
+    let i = usize::from(n);
+    let (kind, first, second, third) = match field {
+        Field::Equal(a, b) => (1, a, b, 0),
+        Field::Applied(a, b, c) => (2, a, b, c),
+        Field::Differing(a, b) => (5, a, b, 0),
+        Field::Check => (6, 0, 0, 0),
+    };
     store(work, KIND, i, kind);
     store(work, FIRST, i, first);
     store(work, SECOND, i, second);
@@ -76,11 +96,12 @@ pub fn note(work: &mut [u16], n: u16, kind: u16, first: u16, second: u16, third:
 }
 
 // One more part, with its key; `head` is the part before it with the same key.
+#[tactic(auto, unfolding(crate::specs::Columns::file_in))]
 pub fn file(work: &mut [u16], n: u16, left: u16, right: u16, key: usize, head: u16)
     requires { (32768 ≤ length work.old) × (n ≤ 1000) × (key < 509) }
     ensures { work.new ≡ file_in work.old n left right key head }
 {
-    let i = wide(n);
+    let i = usize::from(n);
     store(work, LEFT, i, left);
     store(work, RIGHT, i, right);
     store(work, FILED, i, head);
@@ -88,14 +109,37 @@ pub fn file(work: &mut [u16], n: u16, left: u16, right: u16, key: usize, head: u
 }
 
 // One more symbol.
+#[tactic(auto, unfolding(crate::specs::Columns::mark_in))]
 pub fn mark(work: &mut [u16], n: u16, from: u16, to: u16, takes: u16, key: usize, head: u16)
     requires { (32768 ≤ length work.old) × (n ≤ 1000) × (key < 509) }
     ensures { work.new ≡ mark_in work.old n from to takes key head }
 {
-    let i = wide(n);
+    let i = usize::from(n);
     store(work, FROM, i, from);
     store(work, TO, i, to);
     store(work, TAKES, i, takes);
     store(work, NAMED, i, head);
     store(work, NAMES, key, n + 1);
+}
+
+// The last thing on a chain that passes a test; `head` begins the chain, and a column holds its links: each is one more than a thing's number, or 0. n things are filed.
+pub fn seek<F: Fn(usize) -> bool>(
+    work: &[u16],
+    links: usize,
+    n: usize,
+    head: usize,
+    passes: F,
+) -> Option<usize>
+    requires { Linked work.now links n head (λ k. F.pre passes k) }
+    ensures { Sought work.now links n head (λ k r. F.post passes k r) result }
+{
+    let mut link = head;
+    while link != 0 {
+        let k = link - 1;
+        if passes(k) {
+            return Some(k);
+        }
+        link = usize::from(cell(work, links, k));
+    }
+    None
 }

@@ -1,56 +1,63 @@
 -- Reading on behind what has been read, as the definitions have it: a refusal is the whole's, and what was read is handed on. Assumes nothing.
-use Prim.Native.Nat.{ℕ, ◌≤◌}
-use native.Mathlib.Omega.{arith}
-use mathlib.Core.Path.{◌≡◌, refl, ◌∙◌}
-use mathlib.Core.Logic.{◌≢◌}
+use Prim.Native.Nat.{ℕ}
+use mathlib.Core.Path.{◌≡◌, ◌∙◌, ap}
 use mathlib.Core.Bool.{Bool, true, false}
+use Rattle.std.specs.Prelude.{Result, Ok, Err}
+use Rattle.std.specs.Result.{IsErr, IsErrAnd}
 use Rattle.script_meaning.specs.Reading.{Got, fault, got, ◌>>=◌, must, either}
-use Rattle.script_steps.specs.Steps.{Outcome, refused, gave}
+use Rattle.script_shelf.specs.declared.refusal.Fault.{Fault}
+use Rattle.script_shelf.specs.declared.refusal.Refusal.{Refusal}
+use Rattle.script_steps.specs.Steps.{Gave, Outcome}
 
-bind-fault : {A B : Type 0} (g : Got A) (f : A → Got B) {n p : ℕ} → g ≡ fault n p → (g >>= f) ≡ fault n p
-unfolding ◌>>=◌
-bind-fault g f e = rw e
+-- A refusal at a place.
+abbrev pub refuse : {B : Type 0} → Fault → ℕ → Result B Refusal
+refuse f p = Err (record { fault = f; place = p })
 
-bind-got : {A B : Type 0} (g : Got A) (f : A → Got B) {a : A} → g ≡ got a → (g >>= f) ≡ f a
-unfolding ◌>>=◌
-bind-got g f e = rw e
+-- Behind a refusal nothing is read; behind what was read, what is left.
+module _ {A B : Type 0} (g : Got A) (f : A → Got B) where
+  pub then-refused : {n p : ℕ} → g ≡ fault n p → (g >>= f) ≡ fault n p
+  unfolding ◌>>=◌
+  then-refused e = rw e
 
-as-of : {A : Type 0} {g h : Got A} {P : A → Type 0} {n p : ℕ} → g ≡ h → Outcome h P n p → Outcome g P n p
-as-of e (refused b i) = refused b (e ∙ i)
-as-of e (gave a i x) = gave a (e ∙ i) x
+  pub then-got : {a : A} → g ≡ got a → (g >>= f) ≡ f a
+  unfolding ◌>>=◌
+  then-got e = rw e
 
-module _ {A B : Type 0} (g : Got A) (f : A → Got B) {P : A → Type 0} {Q : B → Type 0} where
-  pub then-refused : {n p : ℕ} → Outcome g P n p → n ≢ 0 → Outcome (g >>= f) Q n p
-  then-refused (refused b i) d = refused b (bind-fault g f i)
-  then-refused (gave a i x) d = absurd (d refl)
+-- The same by what was read and what is known of it.
+pub then-fault : {A B C : Type 0} (g : Got A) (f : A → Got B) {P : A → C → Type 0} {b : C} {n p : ℕ} → Gave g P b → ((a : A) → P a b → f a ≡ fault n p) → (g >>= f) ≡ fault n p
+then-fault g f G h = then-got g f G.is ∙ h G.value G.holds
 
-  pub then-gave : {n p m q : ℕ} → Outcome g P n p → n ≡ 0 → ((a : A) → P a → Outcome (f a) Q m q) → Outcome (g >>= f) Q m q
-  then-gave (refused b i) e h = absurd (let l : 14 ≤ _ = b.0 in omega arith)
-  then-gave (gave a i x) e h = as-of (bind-got g f i) (h a x)
+pub as-of : {A B : Type 0} {g h : Got A} (P : A → B → Type 0) (r : Result B Refusal) → g ≡ h → Outcome h P r → Outcome g P r
+as-of P (Ok b) e o = record { value = o.value; is = e ∙ o.is; holds = o.holds }
+as-of P (Err x) e o = e ∙ o
 
-module _ {B : Type 0} {Q : B → Type 0} (b : Bool) (n p : ℕ) (f : Unit {0} → Got B) where
-  pub must-yes : {m q : ℕ} → b ≡ true → Outcome (f tt) Q m q → Outcome (must b n p >>= f) Q m q
+pub then-gave : {A B C D : Type 0} (g : Got A) (f : A → Got B) {P : A → C → Type 0} {b : C} (Q : B → D → Type 0) (r : Result D Refusal) → Gave g P b → ((a : A) → P a b → Outcome (f a) Q r) → Outcome (g >>= f) Q r
+then-gave g f Q r G h = as-of Q r (then-got g f G.is) (h G.value G.holds)
+
+module _ {B : Type 0} (b : Bool) (n p : ℕ) (f : Unit {0} → Got B) where
+  pub must-yes : b ≡ true → (must b n p >>= f) ≡ f tt
   unfolding must ◌>>=◌
-  must-yes e o = rw e o
+  must-yes e = rw e
 
-  pub must-no : b ≡ false → (14 ≤ n) × (n ≤ 16) → Outcome (must b n p >>= f) Q n p
+  pub must-no : b ≡ false → (must b n p >>= f) ≡ fault n p
   unfolding must ◌>>=◌
-  must-no e h = rw e (refused h refl)
+  must-no e = rw e
 
-module _ {A : Type 0} {Q : A → Type 0} {m q : ℕ} where
-  pub either-yes : (b : Bool) (f g : Unit {0} → Got A) → b ≡ true → Outcome (f tt) Q m q → Outcome (either b f g) Q m q
+module _ {A : Type 0} (b : Bool) (f g : Unit {0} → Got A) where
+  pub either-yes : b ≡ true → either b f g ≡ f tt
   unfolding either
-  either-yes b f g e o = rw e o
+  either-yes e = rw e
 
-  pub either-no : (b : Bool) (f g : Unit {0} → Got A) → b ≡ false → Outcome (g tt) Q m q → Outcome (either b f g) Q m q
+  pub either-no : b ≡ false → either b f g ≡ g tt
   unfolding either
-  either-no b f g e o = rw e o
+  either-no e = rw e
 
 -- What was read has another property too.
-pub out-map : {A : Type 0} {g : Got A} {P Q : A → Type 0} {n p : ℕ} → ((a : A) → P a → Q a) → Outcome g P n p → Outcome g Q n p
-out-map h (refused b i) = refused b i
-out-map h (gave a i x) = gave a i (h a x)
+pub out-map : {A B : Type 0} (g : Got A) (P Q : A → B → Type 0) (r : Result B Refusal) → ((a : A) (b : B) → P a b → Q a b) → Outcome g P r → Outcome g Q r
+out-map g P Q (Ok b) h o = record { value = o.value; is = o.is; holds = h o.value b o.holds }
+out-map g P Q (Err e) h o = o
 
--- A refusal has a number.
-pub out-place : {A : Type 0} {g : Got A} {P : A → Type 0} {n p m q : ℕ} → m ≡ n → q ≡ p → Outcome g P n p → Outcome g P m q
-out-place e f o = rw (e, f) o
+-- What a `?` hands on is the refusal that came.
+pub handed : {B : Type 0} {r : Result B Refusal} {e : Refusal} → IsErr r × IsErrAnd r (λ y. y ≡ e) → r ≡ Err e
+handed {r = Ok b} h = absurd h.1
+handed {r = Err y} h = ap Err h.1

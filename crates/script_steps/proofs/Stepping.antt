@@ -9,16 +9,22 @@ use mathlib.Core.List.{List}
 use lib.Dec.{T, eqb, eqb→eq, ltb, ltb→lt, leb, leb→le}
 use lib.ListN.{length, get_or}
 use lib.Seq.{slice, length-slice}
-use Rattle.script_terms.proofs.Tests.{both, and_no, eqb_yes, eqb_no, leb_yes, leb_no}
+use Rattle.std.specs.Prelude.{Result, Ok, Err}
+use Rattle.script_terms.proofs.Tests.{both, both_hold, eqb_yes, eqb_no, leb_yes, leb_no}
 use Rattle.script_terms.specs.Flat.{Item}
-use Rattle.script_meaning.specs.Tokens.{bytes, same_bytes, listed, reserved, core, Token, opening, closing, word, other, ended, Lexeme, lex, next, is_simple, is_word, text_of}
-use Rattle.script_meaning.specs.Reading.{Got, got, ◌>>=◌, must, want, is_opening, is_closing, Seen, is_there, new_name, sort_is, Sorts, sorts_at}
+use Rattle.script_meaning.specs.Tokens.{bytes, same_bytes, listed, reserved, core, Token, opening, closing, word, other, ended, lex, next, is_simple, is_word, text_of}
+use Rattle.script_meaning.specs.Reading.{Got, fault, got, ◌>>=◌, must, want, is_opening, is_closing, Seen, is_there, new_name, sort_is, sorts_at}
+use Rattle.script_shelf.specs.Refusals.{fault_number}
 use Rattle.script_shelf.specs.Shelf.{Holding}
 use Rattle.script_shelf.specs.declared.Counts.{Counts}
+use Rattle.script_shelf.specs.declared.refusal.Fault.TheVariants.{OutsideSubset, AgainstDeclarations, AboveLimit}
+use Rattle.script_shelf.specs.declared.refusal.Refusal.{Refusal}
+use Rattle.script_tokens.specs.declared.Lexeme.{Lexeme}
 use Rattle.script_names.specs.Names.{Looks}
 use Rattle.script_words.specs.Words.{known, word_at, Says, Read}
-use Rattle.script_steps.specs.Steps.{Outcome, refused, gave, asked, askable, Passed, Wanted, SortRead, Numbered, Sorted, Fresh, NewNames}
-use Rattle.script_steps.proofs.Outcomes.{then-refused, then-gave, must-yes, must-no, either-yes, either-no}
+use Rattle.script_steps.specs.declared.Count.{Count}
+use Rattle.script_steps.specs.Steps.{Gave, Outcome, asked, askable, Passed, Wanted, SortRead, Numbered, Sorted, NewNames}
+use Rattle.script_steps.proofs.Outcomes.{refuse, then-refused, then-got, must-yes, must-no, either-yes, either-no, as-of}
 
 -- A token by its number is the token that is asked for.
 as-asked : {s : List ℕ} {x : Token} {kind from to : ℕ} (k : ℕ) → T (askable k) → Says s x kind from to → asked k x ≡ eqb kind k
@@ -32,189 +38,180 @@ as-asked {x = x} {kind = kind} k t S = go (eqb k 3) (eqb k 4) refl refl (eqb→e
     go false true e f g h u = S.closes ∙ ap (eqb kind) (sym (h tt))
     go false false e f g h u = let p = both (leb 7 k) (ltb k 61) u in tail (leb→le 7 k p.0, ltb→lt k 61 p.1)
 
-module _ {s : List ℕ} {at kind from to : ℕ} (L : Read s at kind from to) where
-  passed : kind ≢ 0 → Passed s at from to (next (lex s at))
+module _ {s : List ℕ} {at kind : ℕ} (x : Lexeme) (L : Read s at kind x.from x.to) where
+  pub passed : kind ≢ 0 → Passed s at (next (lex s at)) x
   passed d = let h = L.says.some d in record { is = sym L.behind; place_is = L.from_is; on = omega (arith, L.on); inside = L.inside }
 
-  pub want-there : (k : ℕ) → T (askable k) → kind ≡ k → Wanted s at k 0 from to
-  want-there k t e = record { out = must-yes (asked k (lex s at).token) 14 (lex s at).from (λ _. got (next (lex s at))) (as-asked k t L.says ∙ eqb_yes e) (gave (next (lex s at)) refl (passed (λ z. not-nought k t (sym e ∙ z)))) }
+  -- A refusal at the token at hand.
+  pub here : {A : Type 0} {g : Got A} {n : ℕ} → g ≡ fault n (lex s at).from → g ≡ fault n x.from
+  here {n = n} e = e ∙ ap (fault n) (sym L.from_is)
+
+  pub want-there : (k : ℕ) → T (askable k) → kind ≡ k → Wanted s at k (Ok x)
+  want-there k t e = record {
+    out = record { value = next (lex s at); is = must-yes (asked k (lex s at).token) 14 (lex s at).from (λ _. got (next (lex s at))) (as-asked k t L.says ∙ eqb_yes e); holds = passed (λ z. not-nought k t (sym e ∙ z)) };
+  }
     where
       not-nought : (k : ℕ) → T (askable k) → k ≡ 0 → ⊥
       not-nought k t z = rw z at t
 
-  pub want-missed : (k : ℕ) → T (askable k) → kind ≢ k → Wanted s at k 14 from to
-  want-missed k t d = record { out = rw L.from_is (must-no (asked k (lex s at).token) 14 (lex s at).from (λ _. got (next (lex s at))) (as-asked k t L.says ∙ eqb_no d) (omega arith, omega arith)) }
+  pub want-missed : (k : ℕ) → T (askable k) → kind ≢ k → Wanted s at k (refuse OutsideSubset x.from)
+  want-missed k t d = record { out = here (must-no (asked k (lex s at).token) 14 (lex s at).from (λ _. got (next (lex s at))) (as-asked k t L.says ∙ eqb_no d)) }
 
-  -- Sorts.
-  simple-is : 6 ≤ kind → kind ≤ 16 → is_simple (lex s at).token ≡ true
-  simple-is h i = L.says.simple ∙ rw (leb_yes 6 kind h, leb_yes kind 16 i)
+  -- Simple symbols.
+  module _ {b : Bool} (e : b ≡ (leb 6 kind && leb kind 16)) where
+    pub simple-is : is_simple (lex s at).token ≡ b
+    simple-is = L.says.simple ∙ sym e
 
-  simple-low : kind < 6 → is_simple (lex s at).token ≡ false
-  simple-low h = L.says.simple ∙ rw (leb_no 6 kind h)
+    pub simple-from : b ≡ true → 6 ≤ kind
+    simple-from f = leb→le 6 kind (rw (both_hold (leb 6 kind) (leb kind 16) (sym e ∙ f)).0 tt)
 
-  simple-high : 16 < kind → is_simple (lex s at).token ≡ false
-  simple-high h = L.says.simple ∙ rw (leb_no kind 16 h, and_no (leb 6 kind))
+    pub simple-to : b ≡ true → kind ≤ 16
+    simple-to f = leb→le kind 16 (rw (both_hold (leb 6 kind) (leb kind 16) (sym e ∙ f)).1 tt)
 
-  module _ (u : List ℕ) where
-    sort-14 : is_simple (lex s at).token ≡ false → SortRead s u at 14 from to
-    sort-14 e = record { out = rw L.from_is (must-no (is_simple (lex s at).token && not (is_word "Bool" (lex s at).token)) 14 (lex s at).from _ (rw e) (omega arith, omega arith)) }
+    pub name-order : b ≡ true → x.from < x.to
+    name-order f = let h = simple-from f in L.says.some (λ z. omega arith)
 
-    pub sort-low : kind < 6 → SortRead s u at 14 from to
-    sort-low h = sort-14 (simple-low h)
+    -- Sorts.
+    module _ (u : List ℕ) where
+      pub sort-outside : b ≡ false → SortRead s u at (refuse OutsideSubset x.from)
+      sort-outside f = record { out = here (must-no (is_simple (lex s at).token && not (is_word "Bool" (lex s at).token)) 14 (lex s at).from _ (rw (simple-is ∙ f))) }
 
-    pub sort-high : 16 < kind → SortRead s u at 14 from to
-    sort-high h = sort-14 (simple-high h)
+      module _ (f : b ≡ true) {d : Bool} (g : d ≡ same_bytes (word_at 54) (slice x.from x.to s)) where
+        bool_is : is_word "Bool" (lex s at).token ≡ d
+        unfolding word_at known core reserved
+        bool_is = go (lex s at).token (L.says.text (simple-from f)) (simple-is ∙ f) ∙ sym g
+          where
+            go : (y : Token) → text_of y ≡ slice x.from x.to s → is_simple y ≡ true → is_word "Bool" y ≡ same_bytes (bytes "Bool") (slice x.from x.to s)
+            go opening e q = let z : ◌≡◌ {A = ℕ} 0 1 = cc in absurd (omega arith)
+            go closing e q = let z : ◌≡◌ {A = ℕ} 0 1 = cc in absurd (omega arith)
+            go (word w) e q = ap (same_bytes (bytes "Bool")) e
+            go other e q = let z : ◌≡◌ {A = ℕ} 0 1 = cc in absurd (omega arith)
+            go ended e q = let z : ◌≡◌ {A = ℕ} 0 1 = cc in absurd (omega arith)
 
-    module _ (h : 6 ≤ kind) (i : kind ≤ 16) where
-      bool_is : {b : Bool} → b ≡ same_bytes (word_at 54) (slice from to s) → is_word "Bool" (lex s at).token ≡ b
-      unfolding word_at known core reserved
-      bool_is e = go (lex s at).token (L.says.text h) (simple-is h i) ∙ sym e
-        where
-          go : (x : Token) → text_of x ≡ slice from to s → is_simple x ≡ true → is_word "Bool" x ≡ same_bytes (bytes "Bool") (slice from to s)
-          go opening e q = let z : ◌≡◌ {A = ℕ} 0 1 = cc in absurd (omega arith)
-          go closing e q = let z : ◌≡◌ {A = ℕ} 0 1 = cc in absurd (omega arith)
-          go (word w) e q = ap (same_bytes (bytes "Bool")) e
-          go other e q = let z : ◌≡◌ {A = ℕ} 0 1 = cc in absurd (omega arith)
-          go ended e q = let z : ◌≡◌ {A = ℕ} 0 1 = cc in absurd (omega arith)
+        pub sort-bool : d ≡ true → SortRead s u at (refuse OutsideSubset x.from)
+        sort-bool q = record { out = here (must-no (is_simple (lex s at).token && not (is_word "Bool" (lex s at).token)) 14 (lex s at).from _ (rw (simple-is ∙ f, bool_is ∙ q))) }
 
-      pub sort-bool : {b : Bool} → b ≡ same_bytes (word_at 54) (slice from to s) → b ≡ true → SortRead s u at 14 from to
-      sort-bool e q = record { out = rw L.from_is (must-no (is_simple (lex s at).token && not (is_word "Bool" (lex s at).token)) 14 (lex s at).from _ (rw (simple-is h i, bool_is e ∙ q)) (omega arith, omega arith)) }
+        module _ (q : d ≡ false) {v : Bool} (r : v ≡ same_bytes u (slice x.from x.to s)) where
+          same-is : same_bytes u (text_of (lex s at).token) ≡ v
+          same-is = ap (same_bytes u) (L.says.text (simple-from f)) ∙ sym r
 
-      on-to-15 : {b : Bool} {m p : ℕ} → b ≡ same_bytes (word_at 54) (slice from to s) → b ≡ false → Outcome (must (same_bytes u (text_of (lex s at).token)) 15 (lex s at).from >>= λ _. got (next (lex s at))) (Passed s at from to) m p
-          → Outcome (sort_is u (lex s at)) (Passed s at from to) m p
-      on-to-15 e q o = must-yes (is_simple (lex s at).token && not (is_word "Bool" (lex s at).token)) 14 (lex s at).from _ (rw (simple-is h i, bool_is e ∙ q)) o
+          on-to : sort_is u (lex s at) ≡ (must (same_bytes u (text_of (lex s at).token)) 15 (lex s at).from >>= λ _. got (next (lex s at)))
+          on-to = must-yes (is_simple (lex s at).token && not (is_word "Bool" (lex s at).token)) 14 (lex s at).from _ (rw (simple-is ∙ f, bool_is ∙ q))
 
-      pub sort-other : {b d : Bool} → b ≡ same_bytes (word_at 54) (slice from to s) → b ≡ false → d ≡ same_bytes u (slice from to s) → d ≡ false → SortRead s u at 15 from to
-      sort-other e q f r = record { out = on-to-15 e q (rw L.from_is (must-no (same_bytes u (text_of (lex s at).token)) 15 (lex s at).from _ (ap (same_bytes u) (L.says.text h) ∙ sym f ∙ r) (omega arith, omega arith))) }
+          pub sort-other : v ≡ false → SortRead s u at (refuse AgainstDeclarations x.from)
+          sort-other i = record { out = here (on-to ∙ must-no (same_bytes u (text_of (lex s at).token)) 15 (lex s at).from _ (same-is ∙ i)) }
 
-      pub sort-it : {b d : Bool} → b ≡ same_bytes (word_at 54) (slice from to s) → b ≡ false → d ≡ same_bytes u (slice from to s) → d ≡ true → SortRead s u at 0 from to
-      sort-it e q f r = record { out = on-to-15 e q (must-yes (same_bytes u (text_of (lex s at).token)) 15 (lex s at).from _ (ap (same_bytes u) (L.says.text h) ∙ sym f ∙ r) (gave (next (lex s at)) refl (passed (λ z. omega arith)))) }
+          pub sort-it : v ≡ true → SortRead s u at (Ok x)
+          sort-it i = record { out = record { value = next (lex s at); is = on-to ∙ must-yes (same_bytes u (text_of (lex s at).token)) 15 (lex s at).from _ (same-is ∙ i); holds = let h = simple-from f in passed (λ z. omega arith) } }
 
-  -- Names.
-  module _ (h : 6 ≤ kind) (i : kind ≤ 16) where
-    taken_out : {n p : ℕ} (t : Seen) → (taken : Bool) → (listed core (text_of (lex s at).token) || is_there t.symbols (text_of (lex s at).token)) ≡ taken
-        → Outcome (must (not taken) 15 (lex s at).from >>= λ _. must (leb (length (text_of (lex s at).token)) 32) 16 (lex s at).from >>= λ _. got (lex s at)) (Fresh s t at from to) n p
-        → Outcome (new_name (λ w. listed core w || is_there t.symbols w) s at) (Fresh s t at from to) n p
-    taken_out t taken e o = must-yes (is_simple (lex s at).token) 14 (lex s at).from _ (simple-is h i) (rw e o)
+    -- Names.
+    taken : b ≡ true → (t : Seen) (taken : Bool) → (listed core (text_of (lex s at).token) || is_there t.symbols (text_of (lex s at).token)) ≡ taken
+        → new_name (λ w. listed core w || is_there t.symbols w) s at ≡ (must (not taken) 15 (lex s at).from >>= λ _. must (leb (length (text_of (lex s at).token)) 32) 16 (lex s at).from >>= λ _. got (lex s at))
+    taken f t v e = must-yes (is_simple (lex s at).token) 14 (lex s at).from _ (simple-is ∙ f) ∙ rw e refl
 
-  module _ {w : List ℕ} {c : Counts} where
-    pub name-low : kind < 6 → NewNames s w c at 14 from to
-    name-low h = record { names = λ t fs H. rw L.from_is (must-no (is_simple (lex s at).token) 14 (lex s at).from _ (simple-low h) (omega arith, omega arith)) }
+    module _ {w : List ℕ} {c : Counts} where
+      pub name-outside : b ≡ false → NewNames s w c at (refuse OutsideSubset x.from)
+      name-outside f = record { names = λ t fs H. here (must-no (is_simple (lex s at).token) 14 (lex s at).from _ (simple-is ∙ f)) }
 
-    pub name-high : 16 < kind → NewNames s w c at 14 from to
-    name-high h = record { names = λ t fs H. rw L.from_is (must-no (is_simple (lex s at).token) 14 (lex s at).from _ (simple-high h) (omega arith, omega arith)) }
-
-    module _ (h : 6 ≤ kind) (i : kind ≤ 16) where
-      pub name-core : kind ≢ 6 → NewNames s w c at 15 from to
-      name-core d = record {
-        names = λ t fs H.
-            let e : listed core (text_of (lex s at).token) ≡ true = L.says.cores h ∙ rw (leb_yes 7 kind (omega arith), leb_yes kind 16 i) in
-            taken_out h i t true (rw e) (rw L.from_is (must-no false 15 (lex s at).from _ refl (omega arith, omega arith)));
-      }
-
-      module _ (q : kind ≡ 6) {number takes : ℕ} {there : Bool} (K : Looks s w c from to there number takes) where
-        taken_is : (t : Seen) (fs : List Item) → Holding s w c t fs → (listed core (text_of (lex s at).token) || is_there t.symbols (text_of (lex s at).token)) ≡ there
-        taken_is t fs H =
-            let e : listed core (text_of (lex s at).token) ≡ false = L.says.cores h ∙ rw (leb_no 7 kind (omega arith)) in
-            rw e (ap (is_there t.symbols) (L.says.text h) ∙ sym (K.looked t fs H).there-is)
-
-        pub name-used : there ≡ true → NewNames s w c at 15 from to
-        name-used e = record { names = λ t fs H. taken_out h i t true (taken_is t fs H ∙ e) (rw L.from_is (must-no false 15 (lex s at).from _ refl (omega arith, omega arith))) }
-
-        size_is : length (text_of (lex s at).token) ≡ to - from
-        size_is = ap length (L.says.text h) ∙ length-slice from to s L.inside
-
-        pub name-long : there ≡ false → 32 < to - from → NewNames s w c at 16 from to
-        name-long e l = record { names = λ t fs H. taken_out h i t false (taken_is t fs H ∙ e) (must-yes true 15 (lex s at).from _ refl (rw L.from_is (must-no (leb (length (text_of (lex s at).token)) 32) 16 (lex s at).from _ (leb_no (length (text_of (lex s at).token)) 32 (omega (arith, size_is))) (omega arith, omega arith)))) }
-
-        pub name_new : there ≡ false → to - from ≤ 32 → NewNames s w c at 0 from to
-        name_new e l = record {
+      module _ (f : b ≡ true) where
+        pub name-core : kind ≢ 6 → NewNames s w c at (refuse AgainstDeclarations x.from)
+        name-core d = record {
           names = λ t fs H.
-              let g = L.says.some (λ z. omega arith) in
-              taken_out h i t false (taken_is t fs H ∙ e) (must-yes true 15 (lex s at).from _ refl (must-yes (leb (length (text_of (lex s at).token)) 32) 16 (lex s at).from _ (leb_yes (length (text_of (lex s at).token)) 32 (omega (arith, size_is)))
-              (gave (lex s at) refl (record { is = refl; text = L.says.text h; behind = L.behind; order = g; on = omega (arith, L.on); inside = L.inside; unused = sym (K.looked t fs H).there-is ∙ e }))));
+              let h = simple-from f in
+              let e : listed core (text_of (lex s at).token) ≡ true = L.says.cores h ∙ rw (leb_yes 7 kind (omega arith), leb_yes kind 16 (simple-to f)) in
+              here (taken f t true (rw e) ∙ must-no false 15 (lex s at).from _ refl);
         }
 
--- What has been passed.
-pub out-passed : {s : List ℕ} {g : Got ℕ} {at place b n p : ℕ} → Outcome g (Passed s at place b) n p → n ≡ 0 → (at < b) × (b ≤ length s)
-out-passed (refused v i) e = absurd (let l : 14 ≤ _ = v.0 in omega arith)
-out-passed (gave a i x) e = (x.on, x.inside)
+        module _ (q : kind ≡ 6) {number takes : ℕ} {there : Bool} (K : Looks s w c x.from x.to there number takes) where
+          taken_is : (t : Seen) (fs : List Item) → Holding s w c t fs → (listed core (text_of (lex s at).token) || is_there t.symbols (text_of (lex s at).token)) ≡ there
+          taken_is t fs H =
+              let h = simple-from f in
+              let e : listed core (text_of (lex s at).token) ≡ false = L.says.cores h ∙ rw (leb_no 7 kind (omega arith)) in
+              rw e (ap (is_there t.symbols) (L.says.text h) ∙ sym (K.looked t fs H).there-is)
+
+          pub name-used : there ≡ true → NewNames s w c at (refuse AgainstDeclarations x.from)
+          name-used e = record { names = λ t fs H. here (taken f t true (taken_is t fs H ∙ e) ∙ must-no false 15 (lex s at).from _ refl) }
+
+          size_is : length (text_of (lex s at).token) ≡ x.to - x.from
+          size_is = ap length (L.says.text (simple-from f)) ∙ length-slice x.from x.to s L.inside
+
+          module _ (absent : there ≡ false) where
+            unused : (t : Seen) (fs : List Item) → Holding s w c t fs → new_name (λ w. listed core w || is_there t.symbols w) s at ≡ (must (leb (length (text_of (lex s at).token)) 32) 16 (lex s at).from >>= λ _. got (lex s at))
+            unused t fs H = taken f t false (taken_is t fs H ∙ absent) ∙ must-yes true 15 (lex s at).from _ refl
+
+            pub name-long : 32 < x.to - x.from → NewNames s w c at (refuse AboveLimit x.from)
+            name-long l = record { names = λ t fs H. here (unused t fs H ∙ must-no (leb (length (text_of (lex s at).token)) 32) 16 (lex s at).from _ (leb_no (length (text_of (lex s at).token)) 32 (omega (arith, size_is)))) }
+
+            pub name-new : x.to - x.from ≤ 32 → NewNames s w c at (Ok x)
+            name-new l = record {
+              names = λ t fs H.
+                  let g = name-order f in
+                  record {
+                    value = lex s at;
+                    is = unused t fs H ∙ must-yes (leb (length (text_of (lex s at).token)) 32) 16 (lex s at).from _ (leb_yes (length (text_of (lex s at).token)) 32 (omega (arith, size_is)));
+                    holds = record { is = refl; text = L.says.text (simple-from f); behind = L.behind; order = g; on = omega (arith, L.on); inside = L.inside; unused = sym (K.looked t fs H).there-is ∙ absent };
+                  };
+            }
 
 -- While sorts are read.
-pub record Sorting (s u : List ℕ) (start at number kind from to : ℕ) : Type 0 where
-  pub token : Read s at kind from to
+pub record Sorting (s u : List ℕ) (start at number kind : ℕ) (x : Lexeme) : Type 0 where
+  pub token : Read s at kind x.from x.to
   pub on : start ≤ at
   pub inside : at ≤ length s
   pub few : number + start ≤ at
-  pub left : {n p m q : ℕ} → ((k : ℕ) → length s - at < k → Outcome (sorts_at k s u number at) (Numbered s start m q) n p) → (k : ℕ) → length s - start < k → Outcome (sorts_at k s u 0 start) (Numbered s start m q) n p
+  pub left : (r : Result Count Refusal) → ((k : ℕ) → length s - at < k → Outcome (sorts_at k s u number at) (Numbered s start) r) → (k : ℕ) → length s - start < k → Outcome (sorts_at k s u 0 start) (Numbered s start) r
 
-pub sorting_start : {s u : List ℕ} {start kind from to : ℕ} → start ≤ length s → Read s start kind from to → Sorting s u start start 0 kind from to
-sorting_start h L = record { token = L; on = omega arith; inside = h; few = omega arith; left = λ f. f }
+pub sorting_start : {s u : List ℕ} {start kind : ℕ} (x : Lexeme) → start ≤ length s → Read s start kind x.from x.to → Sorting s u start start 0 kind x
+sorting_start x h L = record { token = L; on = omega arith; inside = h; few = omega arith; left = λ r f. f }
 
-module _ {s u : List ℕ} {start at number kind from to : ℕ} (S : Sorting s u start at number kind from to) where
-  open-not : kind ≢ 4 → is_closing (lex s at).token ≡ false
-  open-not d = S.token.says.closes ∙ eqb_no d
+module _ {s u : List ℕ} {start at number kind : ℕ} {x : Lexeme} (S : Sorting s u start at number kind x) where
+  module _ (d : kind ≢ 4) where
+    open-not : is_closing (lex s at).token ≡ false
+    open-not = S.token.says.closes ∙ eqb_no d
 
-  pub sorting-refused : {n p b m q : ℕ} → kind ≢ 4 → SortRead s u at n p b → n ≢ 0 → Sorted s u start n p m q
-  sorting-refused {n} {p} {m} {q} d o e = record { reads = S.left step }
+    pub sorting-refused : {e : Refusal} → SortRead s u at (Err e) → Sorted s u start (Err e)
+    sorting-refused {e} o = record { reads = S.left (Err e) step }
+      where
+        step : (k : ℕ) → length s - at < k → Outcome (sorts_at k s u number at) (Numbered s start) (Err e)
+        step zero l = absurd (omega arith)
+        step (suc k) l = either-no (is_closing (lex s at).token) _ _ open-not ∙ then-refused (sort_is u (lex s at)) (λ b. sorts_at k s u (suc number) b) o.out
+
+    pub sorting-on : {y : Lexeme} (z : Lexeme) {kind' : ℕ} → SortRead s u at (Ok y) → Read s y.to kind' z.from z.to → Sorting s u start y.to (number + 1) kind' z
+    sorting-on {y} z o M =
+        let p = o.out.holds in
+        let l = p.on in
+        record { token = M; on = omega (arith, S.on); inside = p.inside; few = omega (arith, S.few); left = λ r f. S.left r (step r f) }
+      where
+        one : (k : ℕ) → sorts_at (suc k) s u number at ≡ sorts_at k s u (number + 1) y.to
+        one k =
+            let v : o.out.value ≡ y.to = o.out.holds.is in
+            either-no (is_closing (lex s at).token) _ _ open-not ∙ then-got (sort_is u (lex s at)) (λ b. sorts_at k s u (suc number) b) o.out.is ∙ rw (v, add-one number) refl
+
+        step : (r : Result Count Refusal) → ((k : ℕ) → length s - y.to < k → Outcome (sorts_at k s u (number + 1) y.to) (Numbered s start) r) → (k : ℕ) → length s - at < k → Outcome (sorts_at k s u number at) (Numbered s start) r
+        step r f zero l = absurd (omega arith)
+        step r f (suc k) l = as-of (Numbered s start) r (one k) (f k (omega (arith, o.out.holds.on, o.out.holds.inside)))
+
+  pub sorting-closed : kind ≡ 4 → Sorted s u start (Ok (record { number = number; at = x.to }))
+  sorting-closed e = record { reads = S.left (Ok (record { number = number; at = x.to })) step }
     where
-      step : (k : ℕ) → length s - at < k → Outcome (sorts_at k s u number at) (Numbered s start m q) n p
-      step zero l = absurd (omega arith)
-      step (suc k) l = either-no (is_closing (lex s at).token) _ _ (open-not d) (then-refused (sort_is u (lex s at)) (λ b. sorts_at k s u (suc number) b) o.out e)
-
-  pub sorting-on : {n p b kind' from' to' : ℕ} → kind ≢ 4 → SortRead s u at n p b → n ≡ 0 → Read s b kind' from' to' → Sorting s u start b (number + 1) kind' from' to'
-  sorting-on {n} {p} {b} d o e L =
-      let g = out-passed o.out e in
-      let l = g.0 in
-      record { token = L; on = omega (arith, S.on); inside = g.1; few = omega (arith, S.few); left = λ f. S.left (step f) }
-    where
-      step : {n' p' m q : ℕ} → ((k : ℕ) → length s - b < k → Outcome (sorts_at k s u (number + 1) b) (Numbered s start m q) n' p') → (k : ℕ) → length s - at < k → Outcome (sorts_at k s u number at) (Numbered s start m q) n' p'
-      step f zero l = absurd (omega arith)
-      step f (suc k) l =
-          either-no (is_closing (lex s at).token) _ _ (open-not d)
-          (then-gave (sort_is u (lex s at)) (λ b. sorts_at k s u (suc number) b) o.out e
-          (λ a x. let z : a ≡ b = x.is in rw (z, sym (add-one number)) (f k (omega (arith, x.on, x.inside)))))
-
-  pub sorting-closed : kind ≡ 4 → Sorted s u start 0 from number to
-  sorting-closed e = record { reads = S.left step }
-    where
-      step : (k : ℕ) → length s - at < k → Outcome (sorts_at k s u number at) (Numbered s start number to) 0 from
+      step : (k : ℕ) → length s - at < k → Gave (sorts_at k s u number at) (Numbered s start) (record { number = number; at = x.to })
       step zero l = absurd (omega arith)
       step (suc k) l =
           let g = S.token.says.some (λ z. omega arith) in
-          either-yes (is_closing (lex s at).token) _ _ (S.token.says.closes ∙ eqb_yes e)
-          (gave (record { number = number; behind = next (lex s at) }) refl (record { number_is = refl; behind = S.token.behind; on = omega (arith, S.on, S.token.on); inside = S.token.inside }))
+          record {
+            value = record { number = number; behind = next (lex s at) };
+            is = either-yes (is_closing (lex s at).token) _ _ (S.token.says.closes ∙ eqb_yes e);
+            holds = record { number_is = refl; behind = S.token.behind; on = omega (arith, S.on, S.token.on); inside = S.token.inside };
+          }
 
 -- A token that is asked for, in front of what is left to read.
-module _ {s : List ℕ} {at kind n p to : ℕ} (W : Wanted s at kind n p to) {B : Type 0} {Q : B → Type 0} (k : ℕ → Got B) where
-  pub wanted-stop : n ≢ 0 → Outcome (want (asked kind) s at >>= k) Q n p
-  wanted-stop d = then-refused (want (asked kind) s at) k W.out d
+module _ {s : List ℕ} {at kind : ℕ} {B : Type 0} (k : ℕ → Got B) where
+  pub wanted-stop : {e : Refusal} → Wanted s at kind (Err e) → (want (asked kind) s at >>= k) ≡ fault (fault_number e.fault) e.place
+  wanted-stop W = then-refused (want (asked kind) s at) k W.out
 
-  pub wanted-then : n ≡ 0 → {m q : ℕ} → (Passed s at p to to → Outcome (k to) Q m q) → Outcome (want (asked kind) s at >>= k) Q m q
-  wanted-then e h = then-gave (want (asked kind) s at) k W.out e (λ b x. let z : b ≡ to = x.is in rw z (h (record { is = refl; place_is = x.place_is; on = x.on; inside = x.inside })))
+  pub wanted-on : {x : Lexeme} → Wanted s at kind (Ok x) → (want (asked kind) s at >>= k) ≡ k x.to
+  wanted-on {x = x} W = let v : W.out.value ≡ x.to = W.out.holds.is in then-got (want (asked kind) s at) k W.out.is ∙ ap k v
 
--- What a token that was asked for leaves behind.
-pub wanted-on : {s : List ℕ} {at kind n p to : ℕ} → Wanted s at kind n p to → n ≡ 0 → (at < to) × (to ≤ length s)
-wanted-on W e = out-passed W.out e
-
-pub sort-on : {s u : List ℕ} {at n p to : ℕ} → SortRead s u at n p to → n ≡ 0 → (at < to) × (to ≤ length s)
-sort-on W e = out-passed W.out e
-
-pub sorts-on : {s u : List ℕ} {start n p number to : ℕ} → Sorted s u start n p number to → n ≡ 0 → (start ≤ to) × (to ≤ length s)
-sorts-on {s} {start = start} S e = go (S.reads (suc (length s)) (omega arith)) e
-  where
-    go : {g : Got Sorts} {n p number to : ℕ} → Outcome g (Numbered s start number to) n p → n ≡ 0 → (start ≤ to) × (to ≤ length s)
-    go (refused v i) e = absurd (let l : 14 ≤ _ = v.0 in omega arith)
-    go (gave a i x) e = (x.on, x.inside)
-
-pub record Named (s : List ℕ) (at place to : ℕ) : Type 0 where
-  pub order : place < to
-  pub on : at < to
-  pub inside : to ≤ length s
-
-pub name-on : {s w : List ℕ} {c : Counts} {at n p to : ℕ} {t : Seen} {fs : List Item} → NewNames s w c at n p to → Holding s w c t fs → n ≡ 0 → Named s at p to
-name-on {s} {at = at} {p = p} {to = to} {t = t} {fs = fs} N H e = go (N.names t fs H) e
-  where
-    go : {g : Got Lexeme} {n : ℕ} → Outcome g (Fresh s t at p to) n p → n ≡ 0 → Named s at p to
-    go (refused v i) e = absurd (let l : 14 ≤ _ = v.0 in omega arith)
-    go (gave a i x) e = record { order = x.order; on = x.on; inside = x.inside }
+-- A token that was asked for has been passed.
+pub wanted-passed : {s : List ℕ} {at kind : ℕ} {x : Lexeme} → Wanted s at kind (Ok x) → Passed s at x.to x
+wanted-passed W = record { is = refl; place_is = W.out.holds.place_is; on = W.out.holds.on; inside = W.out.holds.inside }

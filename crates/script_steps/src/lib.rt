@@ -1,199 +1,119 @@
 // The steps that commands are made of: a token that is asked for, sorts, a new name. Document 02, No. 4. Rests on script_words, script_names, script_heads.
 #![tactic(auto)]
 
-ghost use Rattle.std.specs.Prelude.{◌≡◌, ℕ, ◌≤◌, ◌<◌, T, length};
-ghost use Rattle.std.proofs.Math.Seq.{slice};
+ghost use Rattle.std.specs.Prelude.{ℕ, ◌≤◌, T, length};
+ghost use Rattle.script_tokens.specs.Kinds.{number};
 ghost use Rattle.script_words.specs.Words.{Read};
 ghost use Rattle.script_heads.specs.Names.{Readable};
 ghost use Rattle.script_steps.specs.Steps.{askable, Wanted, SortRead, Sorted, NewNames};
 
-use script_names::{look_up, same_name};
-use script_shelf::Counts;
+use script_names::look_up;
+use script_shelf::{Counts, Fault, Refusal};
+use script_tokens::{Kind, Lexeme};
 use script_words::{is_word, read_at};
 
-// A refusal (14 to 16) at a place; or 0, the token's place, and the place behind it.
-#[derive(Clone, Copy)]
-pub struct Step {
-    pub fault: u16,
-    pub place: usize,
-    pub at: usize,
-}
-
-// The same, with how many there were.
-#[derive(Clone, Copy)]
+// How many sorts there were, and the place behind the parenthesis that closes them.
+#[derive(Clone, Copy, Debug, PartialEq, Eq)]
 pub struct Count {
-    pub fault: u16,
-    pub place: usize,
     pub number: u16,
     pub at: usize,
 }
 
 // The token of a number is next, or it is outside the subset.
-pub fn want(script: &[u8], at: usize, kind: u8) -> Step
-    requires { (at ≤ length script.now) × T (askable kind) }
-    ensures { Wanted script.now at kind result.fault result.place result.at }
+pub fn want(script: &[u8], at: usize, kind: Kind) -> Result<Lexeme, Refusal>
+    requires { (at ≤ length script.now) × T (askable (number kind)) }
+    ensures { Wanted script.now at (number kind) result }
 {
     let x = read_at(script, at);
-    let from = x.from;
-    let to = x.to;
     if x.kind == kind {
-        return Step {
-            fault: 0,
-            place: from,
-            at: to,
-        };
+        return Ok(x);
     }
-    Step {
-        fault: 14,
-        place: from,
-        at: to,
-    }
+    Err(Refusal {
+        fault: Fault::OutsideSubset,
+        place: x.from,
+    })
 }
 
-// Whether the token at hand is the declared sort, whose name stands between two places.
-fn sort_of(
-    script: &[u8],
-    first: usize,
-    last: usize,
-    at: usize,
-    kind: u8,
-    from: usize,
-    to: usize,
-) -> Step
-    requires { (first ≤ last) × (last ≤ length script.now) × Read script.now at kind from to }
-    ensures { SortRead script.now (slice first last script.now) at result.fault result.place result.at }
+// Whether the token at hand is the declared sort, by its name.
+fn sort_of(script: &[u8], sort: &[u8], at: usize, x: Lexeme) -> Result<Lexeme, Refusal>
+    requires { Read script.now at (number x.kind) x.from x.to }
+    ensures { SortRead script.now sort.now at result }
 {
-    if kind < 6 {
-        return Step {
-            fault: 14,
-            place: from,
-            at: to,
-        };
+    if !x.kind.is_simple() {
+        return Err(Refusal {
+            fault: Fault::OutsideSubset,
+            place: x.from,
+        });
     }
-    if 16 < kind {
-        return Step {
-            fault: 14,
-            place: from,
-            at: to,
-        };
+    let name = &script[x.from..x.to];
+    if is_word(name, script_words::BOOL) {
+        return Err(Refusal {
+            fault: Fault::OutsideSubset,
+            place: x.from,
+        });
     }
-    if is_word(script, from, to, script_words::BOOL) {
-        return Step {
-            fault: 14,
-            place: from,
-            at: to,
-        };
+    if sort == name {
+        return Ok(x);
     }
-    if same_name(script, first, last, from, to) {
-        return Step {
-            fault: 0,
-            place: from,
-            at: to,
-        };
-    }
-    Step {
-        fault: 15,
-        place: from,
-        at: to,
-    }
+    Err(Refusal {
+        fault: Fault::AgainstDeclarations,
+        place: x.from,
+    })
 }
 
 // The declared sort is next.
-pub fn sort_at(script: &[u8], first: usize, last: usize, at: usize) -> Step
-    requires { (first ≤ last) × (last ≤ length script.now) × (at ≤ length script.now) }
-    ensures { SortRead script.now (slice first last script.now) at result.fault result.place result.at }
+pub fn sort_at(script: &[u8], sort: &[u8], at: usize) -> Result<Lexeme, Refusal>
+    requires { at ≤ length script.now }
+    ensures { SortRead script.now sort.now at result }
 {
-    let x = read_at(script, at);
-    let kind = x.kind;
-    let from = x.from;
-    let to = x.to;
-    sort_of(script, first, last, at, kind, from, to)
+    sort_of(script, sort, at, read_at(script, at))
 }
 
 // The argument sorts of a declare-fun, behind its opening parenthesis and up to the closing one.
-pub fn sorts(script: &[u8], first: usize, last: usize, start: usize) -> Count
-    requires { (first ≤ last) × (last ≤ length script.now) × (start ≤ length script.now) × (length script.now ≤ 60000) }
-    ensures { Sorted script.now (slice first last script.now) start result.fault result.place result.number result.at }
+pub fn sorts(script: &[u8], sort: &[u8], start: usize) -> Result<Count, Refusal>
+    requires { (start ≤ length script.now) × (length script.now ≤ 60000) }
+    ensures { Sorted script.now sort.now start result }
 {
     let mut at = start;
     let mut number: u16 = 0;
-    let x = read_at(script, at);
-    let mut kind = x.kind;
-    let mut from = x.from;
-    let mut to = x.to;
-    while kind != 4 {
-        let r = sort_of(script, first, last, at, kind, from, to);
-        if r.fault != 0 {
-            return Count {
-                fault: r.fault,
-                place: r.place,
-                number: 0,
-                at: 0,
-            };
-        }
-        at = r.at;
+    let mut x = read_at(script, at);
+    while x.kind != Kind::Closing {
+        at = sort_of(script, sort, at, x)?.to;
         number += 1;
-        let y = read_at(script, at);
-        kind = y.kind;
-        from = y.from;
-        to = y.to;
+        x = read_at(script, at);
     }
-    Count {
-        fault: 0,
-        place: from,
-        number: number,
-        at: to,
-    }
+    Ok(Count { number, at: x.to })
 }
 
 // A function's name that is not declared yet.
-pub fn new_name(script: &[u8], work: &[u16], counts: Counts, at: usize) -> Step
+pub fn new_name(script: &[u8], work: &[u16], counts: Counts, at: usize) -> Result<Lexeme, Refusal>
     requires { Readable script.now work.now counts at }
-    ensures { NewNames script.now work.now counts at result.fault result.place result.at }
+    ensures { NewNames script.now work.now counts at result }
 {
     let x = read_at(script, at);
-    let kind = x.kind;
-    let from = x.from;
-    let to = x.to;
-    if kind < 6 {
-        return Step {
-            fault: 14,
-            place: from,
-            at: to,
-        };
+    if !x.kind.is_simple() {
+        return Err(Refusal {
+            fault: Fault::OutsideSubset,
+            place: x.from,
+        });
     }
-    if 16 < kind {
-        return Step {
-            fault: 14,
-            place: from,
-            at: to,
-        };
+    let Kind::Name = x.kind else {
+        return Err(Refusal {
+            fault: Fault::AgainstDeclarations,
+            place: x.from,
+        });
+    };
+    if let Some(_) = look_up(script, work, counts, x.from, x.to) {
+        return Err(Refusal {
+            fault: Fault::AgainstDeclarations,
+            place: x.from,
+        });
     }
-    if kind != 6 {
-        return Step {
-            fault: 15,
-            place: from,
-            at: to,
-        };
+    if 32 < x.to - x.from {
+        return Err(Refusal {
+            fault: Fault::AboveLimit,
+            place: x.from,
+        });
     }
-    let l = look_up(script, work, counts, from, to);
-    if l.there {
-        return Step {
-            fault: 15,
-            place: from,
-            at: to,
-        };
-    }
-    if 32 < to - from {
-        return Step {
-            fault: 16,
-            place: from,
-            at: to,
-        };
-    }
-    Step {
-        fault: 0,
-        place: from,
-        at: to,
-    }
+    Ok(x)
 }

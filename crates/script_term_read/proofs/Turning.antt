@@ -8,6 +8,9 @@ use mathlib.Core.Bool.{Bool, true, false}
 use mathlib.Core.List.{List}
 use lib.Dec.{eqb, leb}
 use lib.ListN.{length}
+use Rattle.std.specs.Prelude.{Result, Ok, Err}
+use Rattle.std.specs.Result.{IsErr, IsErrAnd}
+use Rattle.script_shelf.specs.declared.refusal.Refusal.{Refusal}
 use Rattle.script_terms.proofs.Tests.{eqb_no, leb_no, leb_yes}
 use Rattle.script_terms.specs.Terms.{none, count}
 use Rattle.script_terms.specs.Flat.{Item}
@@ -24,7 +27,8 @@ use Rattle.script_heads.specs.Names.{Readable, Headed, outside, undeclared, decl
 use Rattle.script_join.specs.Promises.{Joins, Start, TermRead, refused, found, Terms, Arguments, Going}
 use Rattle.script_join.proofs.Laws.{meeting, within-tags}
 use Rattle.script_join.proofs.Cycle.{going_start, term-refused, term-joined, term-over, closed_none, closed-few, surplus, bare-outside, term-deep, term-outside, term-undeclared, term-on}
-use Rattle.script_term_read.specs.Asks.{TermAsk, ArgumentsAsk, Closes}
+use Rattle.script_term_read.specs.Asks.{TermAsk, ArgumentsAsk, TermAnswered, ArgumentsAnswered, ClosesBy, Closes}
+use Rattle.script_term_read.specs.declared.Found.{Found as Answer}
 use Rattle.script_term_read.proofs.Ways.{bare-refused}
 
 -- A term that was found, as `meet` needs it.
@@ -60,7 +64,7 @@ module _ {s w₀ : List ℕ} {c₀ : Counts} {f from : ℕ} (A : ArgumentsAsk s 
     pub one : Going s w₀ A.seen A.fields d f wants from w c have number at
     one = Z.going A.seen A.fields A.start
 
-    pub turn-closed : {n place x y z : ℕ} {c' : Counts} → Closes s c c' number have at n place x y z → wants ≤ have → Arguments s w₀ w c₀ c' d f wants from n place x y z
+    pub turn-closed : {n place x y z : ℕ} {c' : Counts} → ClosesBy s c c' number have at n place x y z → wants ≤ have → Arguments s w₀ w c₀ c' d f wants from n place x y z
     turn-closed C b = record { reads = λ t fs S. C.closes w₀ w t fs d f wants from (Z.going t fs S) b }
 
     module _ (h : have < wants) {kind fr to : ℕ} (L : Read s at kind fr to) where
@@ -70,16 +74,16 @@ module _ {s w₀ : List ℕ} {c₀ : Counts} {f from : ℕ} (A : ArgumentsAsk s 
       kinds : Says s (lex s at).token kind fr to
       kinds = L.says
 
-      pub turn-none : {n place x y z : ℕ} {c' : Counts} → kind ≡ 4 → have ≡ 0 → n ≡ 14 → place ≡ fr → Arguments s w₀ w c₀ c' d f wants from n place x y z
-      turn-none k q e p = record { reads = λ t fs S. rw (e, p ∙ L.from_is) (closed_none (Z.going t fs S) (kinds.closes ∙ rw k) q) }
+      pub turn-none : {x y z : ℕ} {c' : Counts} → kind ≡ 4 → have ≡ 0 → Arguments s w₀ w c₀ c' d f wants from 14 fr x y z
+      turn-none k q = record { reads = λ t fs S. rw L.from_is (closed_none (Z.going t fs S) (kinds.closes ∙ rw k) q) }
 
-      pub turn-few : {n place x y z : ℕ} {c' : Counts} → kind ≡ 4 → have ≢ 0 → n ≡ 15 → place ≡ fr → Arguments s w₀ w c₀ c' d f wants from n place x y z
-      turn-few k q e p = record { reads = λ t fs S. rw (e, p ∙ L.from_is) (closed-few (Z.going t fs S) (kinds.closes ∙ rw k) q h) }
+      pub turn-few : {x y z : ℕ} {c' : Counts} → kind ≡ 4 → have ≢ 0 → Arguments s w₀ w c₀ c' d f wants from 15 fr x y z
+      turn-few k q = record { reads = λ t fs S. rw L.from_is (closed-few (Z.going t fs S) (kinds.closes ∙ rw k) q h) }
 
-      pub turn-ended : {n place x y z : ℕ} {c' : Counts} → kind ≡ 0 → n ≡ 14 → place ≡ fr → Arguments s w₀ w c₀ c' d f wants from n place x y z
-      turn-ended k e p = record {
+      pub turn-ended : {x y z : ℕ} {c' : Counts} → kind ≡ 0 → Arguments s w₀ w c₀ c' d f wants from 14 fr x y z
+      turn-ended k = record {
         reads = λ t fs S. let G = Z.going t fs S in
-            rw (e, p ∙ L.from_is) (surplus G (kinds.closes ∙ rw k) (omega arith, omega arith) (λ j l. rw (leb_no wants (count G.args) (omega (arith, G.count-is))) (go G.now j)));
+            rw L.from_is (surplus G (kinds.closes ∙ rw k) (omega arith, omega arith) (λ j l. rw (leb_no wants (count G.args) (omega (arith, G.count-is))) (go G.now j)));
       }
         where
           go : (t : Seen) (j : ℕ) → term_at j s t (suc d) false (lex s at) ≡ fault 14 (lex s at).from
@@ -110,9 +114,9 @@ module _ {s w₀ : List ℕ} {c₀ : Counts} {f from : ℕ} (A : ArgumentsAsk s 
             → Loop s w₀ c₀ d f wants from w''' c''' (have + 1) number' z
         turn-joined T q b J v = record { going = λ t fs S. rw (add-one have) (joined_of (Z.going t fs S) h (kinds.closes ∙ no-close) on in-script (rw (add-one have) at b) (read-on T t fs S) q J v) }
 
-        pub turn-over : {w'' w''' : List ℕ} {c'' c''' c'''' : Counts} {n place x y z number' m p u i j : ℕ} {whole within : Bool} → Terms s w w'' c c'' (d + 1) (lex s at) n place x y z → n ≡ 0 → whole ≡ leb wants (have + 1) → Joins w'' w''' c'' c''' number x whole within number' → within ≡ false
-            → m ≡ 16 → p ≡ y → Arguments s w₀ w''' c₀ c'''' d f wants from m p u i j
-        turn-over T q b J v e r = record { reads = λ t fs S. rw (e, r) (over-of (Z.going t fs S) h (kinds.closes ∙ no-close) on in-script (rw (add-one have) at b) (read-on T t fs S) q J v) }
+        pub turn-over : {w'' w''' : List ℕ} {c'' c''' c'''' : Counts} {n place x y z number' u i j : ℕ} {whole within : Bool} → Terms s w w'' c c'' (d + 1) (lex s at) n place x y z → n ≡ 0 → whole ≡ leb wants (have + 1) → Joins w'' w''' c'' c''' number x whole within number' → within ≡ false
+            → Arguments s w₀ w''' c₀ c'''' d f wants from 16 y u i j
+        turn-over T q b J v = record { reads = λ t fs S. (over-of (Z.going t fs S) h (kinds.closes ∙ no-close) on in-script (rw (add-one have) at b) (read-on T t fs S) q J v) }
 
 -- The term reader.
 module _ {s w : List ℕ} {c : Counts} {at kind from to : ℕ} (A : TermAsk s w c at kind from to) (o : kind ≡ 3) (d : ℕ) where
@@ -122,14 +126,14 @@ module _ {s w : List ℕ} {c : Counts} {at kind from to : ℕ} (A : TermAsk s w 
   opens-it : eqb kind 3 ≡ true
   opens-it = rw o
 
-  pub way_deep : {n place x y z : ℕ} {c' : Counts} → 32 < d → n ≡ 16 → place ≡ from → Terms s w w c c' d (lex s at) n place x y z
-  way_deep b e p = bare-refused A 16 (omega arith, omega arith) e p (λ t fs S k. term-deep s t d (lex s at) k (kinds-of.opens ∙ opens-it) (leb_no d 32 b))
+  pub way_deep : {x y z : ℕ} {c' : Counts} → 32 < d → Terms s w w c c' d (lex s at) 16 from x y z
+  way_deep b = bare-refused A 16 (omega arith, omega arith) (λ t fs S k. term-deep s t d (lex s at) k (kinds-of.opens ∙ opens-it) (leb_no d 32 b))
 
   pub way-readable : Readable s w c to
   way-readable = record { inside = A.lexed.inside; seen = A.seen; fields = A.fields; holding = A.start.holding }
 
-  pub way-head : {n place x y z m p v u i : ℕ} {c' : Counts} → d ≤ 32 → Heads s w c to m p v u i → m ≢ 0 → n ≡ m → place ≡ p → Terms s w w c c' d (lex s at) n place x y z
-  way-head {m = m} {p = p} {v = v} {u = u} {i = i} b H q e r = record { reads = λ t fs S. rw (e, r) (head_of t (subst (λ at. Headed s t at m p v u i) A.lexed.behind (H.headed t fs S.holding)) q) }
+  pub way-head : {x y z m p v u i : ℕ} {c' : Counts} → d ≤ 32 → Heads s w c to m p v u i → m ≢ 0 → Terms s w w c c' d (lex s at) m p x y z
+  way-head {m = m} {p = p} {v = v} {u = u} {i = i} b H q = record { reads = λ t fs S. (head_of t (subst (λ at. Headed s t at m p v u i) A.lexed.behind (H.headed t fs S.holding)) q) }
     where
       go : (t : Seen) {a : Got Found} → ((k : ℕ) → term_at (suc k) s t d false (lex s at) ≡ a) → (k : ℕ) → length s - next (lex s at) < k → term_at k s t d false (lex s at) ≡ a
       go t g zero l = absurd (omega arith)
@@ -173,12 +177,27 @@ module _ {s w : List ℕ} {c : Counts} {at kind from to : ℕ} (A : TermAsk s w 
       go t fs (undeclared a g) q r = absurd (omega arith)
       go t fs (declared a g h j k l n) q r = on-to (λ y. term-on s t d (lex s at) y (kinds-of.opens ∙ opens-it) (leb_yes d 32 b) a g ∙ rw (h, j, k)) l n r
 
-size-of : {s w : List ℕ} {t : Seen} {fs : List Item} {rest : ℕ} {read : ℕ → Got Found} {w' : List ℕ} {c' : Counts} {n place x y z : ℕ} → TermRead s w t fs rest read w' c' n place x y z → length w' ≡ length w
-size-of (refused b i r) = i
-size-of (found x t' fs' i r S W a K o v) = i
+  pub head-15 : {m p v u i : ℕ} → Heads s w c to m p v u i → m ≢ 14 → m ≢ 0 → m ≡ 15
+  head-15 H = go (head_at H A.seen A.fields A.start)
+    where
+      go : {t : Seen} {m p v u i : ℕ} → Headed s t (next (lex s at)) m p v u i → m ≢ 14 → m ≢ 0 → m ≡ 15
+      go (outside a) d e = absurd (d refl)
+      go (undeclared a g) d e = refl
+      go (declared a g h j k l n) d e = absurd (e refl)
 
-pub args-size : {s w₀ w' : List ℕ} {c₀ c' : Counts} {d f wants from n place x y z : ℕ} → ArgumentsAsk s w₀ c₀ f from → Arguments s w₀ w' c₀ c' d f wants from n place x y z → length w' ≡ length w₀
-args-size A R = size-of (R.reads A.seen A.fields A.start)
+-- The whole answer, a refusal or not.
+pub closed-told : {s w₀ : List ℕ} {c₀ : Counts} {f from : ℕ} (A : ArgumentsAsk s w₀ c₀ f from) {d wants : ℕ} {w : List ℕ} {c : Counts} {have number at : ℕ} → Loop s w₀ c₀ d f wants from w c have number at → have ≡ wants → (r : Result Answer Refusal) → Closes s c number wants at r
+    → ArgumentsAnswered s w₀ w c₀ d f wants from r
+closed-told {s} {w₀} {c₀} {f} {from} A {d} {wants} {w} {c} {number = number} {at = at} Z e r C = go (subst (λ h. Loop s w₀ c₀ d f wants from w c h number at) e Z) r C
+  where
+    go : Loop s w₀ c₀ d f wants from w c wants number at → (r : Result Answer Refusal) → Closes s c number wants at r → ArgumentsAnswered s w₀ w c₀ d f wants from r
+    go Y (Ok a) C = record { told = turn-closed A Y C.told (omega arith) }
+    go Y (Err e) C = record { told = λ c' x y z. turn-closed A Y (C.told c' x y z) (omega arith) }
+
+pub on-told : {s w : List ℕ} {c : Counts} {at kind from to : ℕ} → TermAsk s w c at kind from to → kind ≡ 3 → {d : ℕ} → d ≤ 32 → {m p v u i : ℕ} → Heads s w c to m p v u i → m ≡ 0 → {w' : List ℕ} (r : Result Answer Refusal) → ArgumentsAnswered s w w' c d v u i r
+    → TermAnswered s w w' c d (lex s at) r
+on-told A o {d} b H q (Ok a) R = record { told = way_on A o d b H q R.told }
+on-told A o {d} b H q (Err e) R = record { told = λ c' x y z. way_on A o d b H q (R.told c' x y z) }
 
 -- The number that falls: twice the unread rest, and a little.
 pub behind-on : {s : List ℕ} {at kind from to : ℕ} → Read s at kind from to → kind ≢ 0 → at ≤ to
@@ -197,3 +216,8 @@ head-behind (declared a g h j k l n) q = (l, n)
 
 pub way-behind : {s w : List ℕ} {c : Counts} {at kind from to m p v u i : ℕ} → TermAsk s w c at kind from to → Heads s w c to m p v u i → m ≡ 0 → (to < i) × (i ≤ length s)
 way-behind A H q = head-behind (H.headed A.seen A.fields A.start.holding) q
+
+-- What a `?` hands on is the refusal that came.
+pub handed : {B : Type 0} {r : Result B Refusal} {e : Refusal} → IsErr r × IsErrAnd r (λ y. y ≡ e) → r ≡ Err e
+handed {r = Ok b} h = absurd h.1
+handed {r = Err y} h = ap Err h.1

@@ -2,40 +2,29 @@
 // script_heads.
 #![tactic(auto)]
 
-ghost use Rattle.std.specs.Prelude.{◌≡◌, ◌≢◌, ℕ, ◌+◌, ◌≤◌, ◌<◌, leb, length};
+ghost use Rattle.std.specs.Prelude.{◌≡◌, ◌≢◌, ℕ, ◌≤◌, length};
 ghost use Rattle.script_meaning.specs.Tokens.{lex};
-ghost use Rattle.script_join.specs.Promises.{Terms, Arguments};
-ghost use Rattle.script_term_read.specs.Asks.{TermAsk, ArgumentsAsk, Closes};
+ghost use Rattle.script_tokens.specs.Kinds.{number};
+ghost use Rattle.script_term_read.specs.Asks.{TermAsk, ArgumentsAsk, Closes, TermAnswered, ArgumentsAnswered};
 
 use script_fields::fits;
 use script_heads::head_of;
 use script_join::join;
 use script_names::look_up;
-use script_shelf::Counts;
+use script_shelf::{Counts, Fault, Refusal};
+use script_tokens::{Kind, Lexeme};
 use script_words::read_at;
 
-// A refusal (14 to 16) and its place; or 0, and the term's number, its last token and the place behind it.
+// How deep a term may stand in terms.
+const DEEPEST: u16 = 32;
+
+// A term's number, its last token, the place behind it, and what the table holds by its end.
 #[derive(Clone, Copy)]
 pub struct Found {
-    pub fault: u16,
-    pub place: usize,
     pub number: u16,
     pub last: usize,
     pub at: usize,
     pub counts: Counts,
-}
-
-fn refuse(fault: u16, place: usize, counts: Counts) -> Found
-    ensures { (result.fault ≡ fault) × (result.place ≡ place) }
-{
-    Found {
-        fault: fault,
-        place: place,
-        number: 0,
-        last: 0,
-        at: 0,
-        counts: counts,
-    }
 }
 
 // A bare name.
@@ -44,78 +33,76 @@ fn bare(
     work: &[u16],
     counts: Counts,
     at: usize,
-    kind: u8,
-    from: usize,
-    to: usize,
+    x: Lexeme,
     depth: u16,
-) -> Found
-    requires { TermAsk script.now work.now counts at kind from to × (kind ≢ 3) }
-    ensures { Terms script.now work.now work.now counts result.counts depth (lex script.now at) result.fault result.place result.number result.last result.at }
+) -> Result<Found, Refusal>
+    requires { TermAsk script.now work.now counts at (number x.kind) x.from x.to × (number x.kind ≢ 3) }
+    ensures { TermAnswered script.now work.now work.now counts depth (lex script.now at) result }
 {
-    if kind != 6 {
-        return refuse(14, from, counts);
+    let place = x.from;
+    let Kind::Name = x.kind else {
+        return Err(Refusal {
+            fault: Fault::OutsideSubset,
+            place,
+        });
+    };
+    let Some(symbol) = look_up(script, work, counts, x.from, x.to) else {
+        return Err(Refusal {
+            fault: Fault::AgainstDeclarations,
+            place,
+        });
+    };
+    if symbol.takes != 0 {
+        return Err(Refusal {
+            fault: Fault::AgainstDeclarations,
+            place,
+        });
     }
-    let l = look_up(script, work, counts, from, to);
-    if l.there {
-        if l.takes != 0 {
-            return refuse(15, from, counts);
-        }
-        if 32 < depth {
-            return refuse(16, from, counts);
-        }
-        return Found {
-            fault: 0,
-            place: 0,
-            number: l.number,
-            last: from,
-            at: to,
-            counts: counts,
-        };
+    if DEEPEST < depth {
+        return Err(Refusal {
+            fault: Fault::AboveLimit,
+            place,
+        });
     }
-    refuse(15, from, counts)
+    Ok(Found {
+        number: symbol.number,
+        last: x.from,
+        at: x.to,
+        counts,
+    })
 }
 
 // All arguments are read: the closing parenthesis.
-fn close(script: &[u8], counts: Counts, number: u16, have: u16, at: usize) -> Found
+fn close(script: &[u8], counts: Counts, number: u16, have: u16, at: usize) -> Result<Found, Refusal>
     requires { at ≤ length script.now }
-    ensures { Closes script.now counts result.counts number have at result.fault result.place result.number result.last result.at }
+    ensures { Closes script.now counts number have at result }
 {
     let x = read_at(script, at);
-    let from = x.from;
-    let to = x.to;
-    let kind = x.kind;
-    if kind == 4 {
-        if have == 0 {
-            return refuse(14, from, counts);
-        }
-        if fits(counts) {
-            return Found {
-                fault: 0,
-                place: 0,
-                number: number,
-                last: from,
-                at: to,
-                counts: counts,
-            };
-        }
-        return refuse(16, from, counts);
+    let place = x.from;
+    match x.kind {
+        Kind::Closing if have == 0 => Err(Refusal {
+            fault: Fault::OutsideSubset,
+            place,
+        }),
+        Kind::Closing if !fits(counts) => Err(Refusal {
+            fault: Fault::AboveLimit,
+            place,
+        }),
+        Kind::Closing => Ok(Found {
+            number,
+            last: x.from,
+            at: x.to,
+            counts,
+        }),
+        Kind::Opening | Kind::Name => Err(Refusal {
+            fault: Fault::AgainstDeclarations,
+            place,
+        }),
+        _ => Err(Refusal {
+            fault: Fault::OutsideSubset,
+            place,
+        }),
     }
-    if kind == 3 {
-        return refuse(15, from, counts);
-    }
-    if kind == 6 {
-        return refuse(15, from, counts);
-    }
-    refuse(14, from, counts)
-}
-
-fn full(wants: u16, have: u16) -> bool
-    ensures { result ≡ leb wants have }
-{
-    if have < wants {
-        return false;
-    }
-    true
 }
 
 // The term whose first token, read from `at` on, is at hand.
@@ -125,28 +112,23 @@ pub fn term(
     work: &mut [u16],
     counts: Counts,
     at: usize,
-    kind: u8,
-    from: usize,
-    to: usize,
+    x: Lexeme,
     depth: u16,
-) -> Found
-    requires { TermAsk script.now work.old counts at kind from to × (depth ≤ 33) }
-    ensures { Terms script.now work.old work.new counts result.counts depth (lex script.now at) result.fault result.place result.number result.last result.at }
+) -> Result<Found, Refusal>
+    requires { TermAsk script.now work.old counts at (number x.kind) x.from x.to × (depth ≤ 33) }
+    ensures { TermAnswered script.now work.old work.new counts depth (lex script.now at) result }
 {
-    if kind != 3 {
-        return bare(script, work, counts, at, kind, from, to, depth);
+    let Kind::Opening = x.kind else {
+        return bare(script, work, counts, at, x, depth);
+    };
+    if DEEPEST < depth {
+        return Err(Refusal {
+            fault: Fault::AboveLimit,
+            place: x.from,
+        });
     }
-    if 32 < depth {
-        return refuse(16, from, counts);
-    }
-    let h = head_of(script, work, counts, to);
-    if h.fault != 0 {
-        return refuse(h.fault, h.place, counts);
-    }
-    let head = h.number;
-    let takes = h.takes;
-    let behind = h.at;
-    arguments(script, work, counts, head, takes, behind, depth)
+    let h = head_of(script, work, counts, x.to)?;
+    arguments(script, work, counts, h.number, h.takes, h.at, depth)
 }
 
 // The arguments of a head, from `from` on.
@@ -159,47 +141,50 @@ fn arguments(
     wants: u16,
     from: usize,
     depth: u16,
-) -> Found
+) -> Result<Found, Refusal>
     requires { ArgumentsAsk script.now work.old counts head from × (depth ≤ 32) }
-    ensures { Arguments script.now work.old work.new counts result.counts depth head wants from result.fault result.place result.number result.last result.at }
+    ensures { ArgumentsAnswered script.now work.old work.new counts depth head wants from result }
 {
     let mut at = from;
-    let mut have: u16 = 0;
     let mut number = head;
     let mut seen = counts;
-    while have < wants {
+    for have in 0..wants {
         let x = read_at(script, at);
-        let kind = x.kind;
-        let first = x.from;
-        let behind = x.to;
-        if kind == 0 {
-            return refuse(14, first, seen);
-        }
-        if kind == 4 {
-            if have == 0 {
-                return refuse(14, first, seen);
+        match x.kind {
+            Kind::End => {
+                return Err(Refusal {
+                    fault: Fault::OutsideSubset,
+                    place: x.from,
+                });
             }
-            return refuse(15, first, seen);
+            Kind::Closing => {
+                let fault = if have == 0 {
+                    Fault::OutsideSubset
+                } else {
+                    Fault::AgainstDeclarations
+                };
+                return Err(Refusal {
+                    fault,
+                    place: x.from,
+                });
+            }
+            _ => {}
         }
-        let r = term(script, work, seen, at, kind, first, behind, depth + 1);
-        if r.fault != 0 {
-            return r;
+        let argument = term(script, work, seen, at, x, depth + 1)?;
+        let whole = wants <= have + 1;
+        match join(work, argument.counts, number, argument.number, whole) {
+            Ok(made) => {
+                number = made.number;
+                seen = made.counts;
+            }
+            Err(_) => {
+                return Err(Refusal {
+                    fault: Fault::AboveLimit,
+                    place: argument.last,
+                });
+            }
         }
-        let found = r.counts;
-        let tag = r.number;
-        let last = r.last;
-        let more = have + 1;
-        let whole = full(wants, more);
-        let j = join(work, found, number, tag, whole);
-        let next = j.counts;
-        if j.within {
-            number = j.number;
-            seen = next;
-            at = r.at;
-            have = more;
-        } else {
-            return refuse(16, last, next);
-        }
+        at = argument.at;
     }
-    close(script, seen, number, have, at)
+    close(script, seen, number, wants, at)
 }

@@ -1,52 +1,72 @@
 // The tokens of a script. Document 02, No. 4; SMT-LIB 2.6, section 3.1. Rests on script_meaning.
 #![tactic(auto)]
 
-ghost use Rattle.std.specs.Prelude.{◌≡◌, ℕ, ◌≤◌, ◌<◌, length, drop};
-ghost use Rattle.script_tokens.specs.Lexing.{Classed, Onward, Skipped, Ran, Lexed};
+ghost use Rattle.std.specs.Prelude.{◌≡◌, ℕ, ◌≤◌, ◌<◌, ◌&&◌, leb, length, drop};
+ghost use Rattle.script_meaning.specs.Tokens.{is_symbolic};
+ghost use Rattle.script_tokens.specs.Lexing.{Onward, Skipped, Ran, Lexed};
+ghost use Rattle.script_tokens.specs.Kinds.{number, state_number};
 
-// 0 white space, 1 a line break, 2 a semicolon, 3 and 4 parentheses, 5 no byte of a token, 6 a symbol character, 7 a digit.
-const CLASSES: [u8; 256] = [
-    5, 5, 5, 5, 5, 5, 5, 5, 5, 0, 1, 5, 5, 1, 5, 5, 5, 5, 5, 5, 5, 5, 5, 5, 5, 5, 5, 5, 5, 5, 5, 5,
-    0, 6, 5, 5, 6, 6, 6, 5, 3, 4, 6, 6, 5, 6, 6, 6, 7, 7, 7, 7, 7, 7, 7, 7, 7, 7, 5, 2, 6, 6, 6, 6,
-    6, 6, 6, 6, 6, 6, 6, 6, 6, 6, 6, 6, 6, 6, 6, 6, 6, 6, 6, 6, 6, 6, 6, 6, 6, 6, 6, 5, 5, 5, 6, 6,
-    5, 6, 6, 6, 6, 6, 6, 6, 6, 6, 6, 6, 6, 6, 6, 6, 6, 6, 6, 6, 6, 6, 6, 6, 6, 6, 6, 5, 5, 5, 6, 5,
-    5, 5, 5, 5, 5, 5, 5, 5, 5, 5, 5, 5, 5, 5, 5, 5, 5, 5, 5, 5, 5, 5, 5, 5, 5, 5, 5, 5, 5, 5, 5, 5,
-    5, 5, 5, 5, 5, 5, 5, 5, 5, 5, 5, 5, 5, 5, 5, 5, 5, 5, 5, 5, 5, 5, 5, 5, 5, 5, 5, 5, 5, 5, 5, 5,
-    5, 5, 5, 5, 5, 5, 5, 5, 5, 5, 5, 5, 5, 5, 5, 5, 5, 5, 5, 5, 5, 5, 5, 5, 5, 5, 5, 5, 5, 5, 5, 5,
-    5, 5, 5, 5, 5, 5, 5, 5, 5, 5, 5, 5, 5, 5, 5, 5, 5, 5, 5, 5, 5, 5, 5, 5, 5, 5, 5, 5, 5, 5, 5, 5,
-];
-
-fn wide(b: u8) -> usize
-    ensures { result ≡ b }
-{
-    b as usize
+// Where a byte leaves the lexer that looks for a token.
+#[derive(Clone, Copy, Debug, PartialEq, Eq)]
+enum State {
+    Outside,
+    Comment,
+    Token,
 }
 
-fn class_of(b: u8) -> u8
-    ensures { Classed b result }
-{
-    let i = wide(b);
-    CLASSES[i]
+// What a token is. `Known` is a word of script_words' list, by its place; the lexer alone calls every word a `Name`.
+#[derive(Clone, Copy, Debug, PartialEq, Eq)]
+pub enum Kind {
+    End,
+    Opening,
+    Closing,
+    Other,
+    Name,
+    Known(u8),
 }
 
-// One byte on: 0 outside of a comment, 1 inside of one, 2 a token begins here.
-fn onward(state: u8, b: u8) -> u8
-    ensures { Onward state b result }
-{
-    let c = class_of(b);
-    if state == 1 {
-        if c == 1 {
-            return 0;
+// A token, its first byte and the place behind it.
+#[derive(Clone, Copy, Debug, PartialEq, Eq)]
+pub struct Lexeme {
+    pub kind: Kind,
+    pub from: usize,
+    pub to: usize,
+}
+
+impl Kind {
+    // Whether the token is a simple symbol: a name of the script's own or one of Core's, which are the first ten of the list.
+    pub fn is_simple(self) -> bool
+        ensures { result ≡ (leb 6 (number self) && leb (number self) 16) }
+    {
+        match self {
+            Kind::Name => true,
+            Kind::Known(place) => place < 10,
+            _ => false,
         }
-        return 1;
     }
-    if c < 2 {
-        return 0;
+}
+
+// A letter, a digit, or one of the standard's other symbol characters.
+fn is_symbolic(b: u8) -> bool
+    ensures { result ≡ is_symbolic b }
+{
+    match b {
+        b'a'..=b'z' | b'A'..=b'Z' | b'0'..=b'9' => true,
+        _ => b"+-/*=%?!.$_~&^<>@".contains(&b),
     }
-    if c == 2 {
-        return 1;
+}
+
+// One byte on.
+fn onward(state: State, b: u8) -> State
+    ensures { Onward (state_number state) b (state_number result) }
+{
+    match (state, b) {
+        (State::Comment, b'\n' | b'\r') => State::Outside,
+        (State::Comment, _) => State::Comment,
+        (_, b' ' | b'\t' | b'\n' | b'\r') => State::Outside,
+        (_, b';') => State::Comment,
+        _ => State::Token,
     }
-    2
 }
 
 // Where the next token begins.
@@ -54,17 +74,14 @@ fn skip(s: &[u8], from: usize) -> usize
     requires { from ≤ length s.now }
     ensures { Skipped s.now from result }
 {
-    let mut i = from;
-    let mut state: u8 = 0;
-    while i < s.len() {
-        let next = onward(state, s[i]);
-        if next == 2 {
+    let mut state = State::Outside;
+    for i in from..s.len() {
+        state = onward(state, s[i]);
+        if state == State::Token {
             return i;
         }
-        state = next;
-        i += 1;
     }
-    i
+    s.len()
 }
 
 // Where the run of symbol characters that begins at a place ends.
@@ -72,51 +89,50 @@ fn run_end(s: &[u8], from: usize) -> usize
     requires { from ≤ length s.now }
     ensures { Ran s.now from result }
 {
-    let mut i = from;
-    while i < s.len() {
-        let c = class_of(s[i]);
-        if c < 6 {
+    for i in from..s.len() {
+        if !is_symbolic(s[i]) {
             return i;
         }
-        i += 1;
     }
-    i
+    s.len()
 }
 
-// A token: 0 the end, 3 and 4 parentheses, 5 any other byte, 6 a word; and its first byte and the place behind it.
-#[derive(Clone, Copy)]
-pub struct Lexeme {
-    pub kind: u8,
-    pub from: usize,
-    pub to: usize,
-}
-
+// The token that is next from a place on.
 pub fn lex_at(s: &[u8], at: usize) -> Lexeme
     requires { at ≤ length s.now }
-    ensures { Lexed s.now at result.kind result.from result.to }
+    ensures { Lexed s.now at (number result.kind) result.from result.to }
 {
-    let i = skip(s, at);
-    if i < s.len() {
-        let c = class_of(s[i]);
-        if 6 <= c {
-            let j = run_end(s, i);
+    let from = skip(s, at);
+    if from == s.len() {
+        return Lexeme {
+            kind: Kind::End,
+            from,
+            to: from,
+        };
+    }
+    match s[from] {
+        b'(' => Lexeme {
+            kind: Kind::Opening,
+            from,
+            to: from + 1,
+        },
+        b')' => Lexeme {
+            kind: Kind::Closing,
+            from,
+            to: from + 1,
+        },
+        first if is_symbolic(first) => {
+            let to = run_end(s, from);
             Lexeme {
-                kind: 6,
-                from: i,
-                to: j,
-            }
-        } else {
-            Lexeme {
-                kind: c,
-                from: i,
-                to: i + 1,
+                kind: Kind::Name,
+                from,
+                to,
             }
         }
-    } else {
-        Lexeme {
-            kind: 0,
-            from: i,
-            to: i,
-        }
+        _ => Lexeme {
+            kind: Kind::Other,
+            from,
+            to: from + 1,
+        },
     }
 }

@@ -1,5 +1,5 @@
 -- A token by its number. Assumes nothing.
-use Prim.Native.Nat.{ℕ, zero, suc, ◌+◌, ◌≤◌, ◌<◌}
+use Prim.Native.Nat.{ℕ, zero, suc, ◌+◌, ◌-◌, ◌≤◌, ◌<◌}
 use native.Mathlib.Omega.{arith}
 use native.Mathlib.Decide.{ℕ_discrete}
 use mathlib.Core.Path.{◌≡◌, refl, sym, ◌∙◌, ap, subst}
@@ -7,13 +7,15 @@ use mathlib.Core.Logic.{◌≢◌}
 use mathlib.Core.Bool.{Bool, true, false, cond}
 use mathlib.Core.List.{List, [], ◌∷◌}
 use lib.Dec.{eqb}
-use lib.ListN.{length, get_or, drop, take}
+use lib.ListN.{length, get_or, drop, take, length-drop}
+use Rattle.std.proofs.Common.{length-take-le}
 use lib.Seq.{slice, slice-cons, take-nil}
 use Rattle.script_terms.proofs.Tests.{eqb_yes, eqb_no}
 use Rattle.script_meaning.specs.Tokens.{bytes, same_bytes, listed, core, is_digit_byte, first_digit, is_symbolic, run, Token, opening, closing, word, other, token_of, lex, next, size_of, is_simple}
 use Rattle.script_meaning.specs.Reading.{is_own}
+use Rattle.script_meaning.proofs.Matching.{part-is}
 use Rattle.script_tokens.specs.Lexing.{Kinded, at-end, at-opening, at-closing, at_other, at-word, Lexed}
-use Rattle.script_words.specs.Words.{known, word_at, Spotted, Placed, told, number, name, Says, Read}
+use Rattle.script_words.specs.Words.{known, word_at, Spotted, Placed, told, number, name, Told, Says, Read}
 use Rattle.script_words.proofs.Telling.{spotted-is, told_of, none-core, none-reserved}
 
 -- A run is the front of what it is taken from.
@@ -25,10 +27,8 @@ run-front (b ∷ l) = go (is_symbolic b) (run-front l)
     go true e = ap (λ y. b ∷ y) e
     go false e = refl
 
-middle : (f n : ℕ) (s : List ℕ) → drop f (take (f + n) s) ≡ take n (drop f s)
-middle zero n s = ap (λ k. take k s) (let e : 0 + n ≡ n = omega arith in e)
-middle (suc f) n [] = ap (drop (suc f)) (take-nil (suc f + n)) ∙ sym (take-nil n)
-middle (suc f) n (x ∷ s) = ap (λ k. drop (suc f) (take k (x ∷ s))) (let e : suc f + n ≡ suc (f + n) = omega arith in e) ∙ middle f n s
+part-as : (s : List ℕ) (from n : ℕ) → take n (drop from s) ≡ slice from (from + n) s
+part-as s from n = let z : from + n - from ≡ n = omega arith in ap (λ k. take k (drop from s)) (sym z) ∙ part-is s (omega arith)
 
 -- A word has a byte.
 some_byte : (l w : List ℕ) → token_of l ≡ word w → 0 < length w
@@ -131,7 +131,7 @@ record Worded (s : List ℕ) (from to : ℕ) (x : Token) : Type 0 where
 worded : (s : List ℕ) (at from to : ℕ) (x : Token) → (lex s at).token ≡ x → Kinded s from to 6 x → Worded s from to x
 worded s at from to x e (at-word {w = w} a b) =
     let n : 0 < length w = some_byte (drop (lex s at).from s) w e in
-    let r : w ≡ slice from (from + length w) s = a ∙ run-front (drop from s) ∙ ap (λ y. take (length y) (drop from s)) (sym a) ∙ sym (middle from (length w) s) in
+    let r : w ≡ slice from (from + length w) s = a ∙ run-front (drop from s) ∙ ap (λ y. take (length y) (drop from s)) (sym a) ∙ part-as s from (length w) in
     record { w = w; is = refl; text = subst (λ y. w ≡ slice from y s) (sym b) r; more = omega arith }
 
 size-of : (s : List ℕ) (kind from to : ℕ) (x : Token) → Kinded s from to kind x → to ≡ from + size_of x
@@ -154,8 +154,21 @@ module _ {s : List ℕ} {at kind from to : ℕ} (L : Lexed s at kind from to) wh
   pub word-order : kind ≡ 6 → from < to
   word-order e = (word-at e).more
 
-  pub read_word : kind ≡ 6 → {k kind' : ℕ} → Spotted (slice from to s) k → Placed k (get_or s from 0) kind' → Read s at kind' from to
-  read_word e {k} {kind'} S P =
+  -- The bytes as the code takes them.
+  pub word-slice : kind ≡ 6 → take (to - from) (drop from s) ≡ slice from to s
+  word-slice e = let h = word-order e in part-is s (omega arith)
+
+  pub word-some : kind ≡ 6 → 0 < length (take (to - from) (drop from s))
+  word-some e =
+      let h = word-order e in
+      let i = L.inside in
+      let k : to - from ≤ length (drop from s) = omega (arith, length-drop from s) in
+      omega (arith, length-take-le (to - from) (drop from s) k)
+
+  pub read_word : kind ≡ 6 → {kind' : ℕ} → Told (take (to - from) (drop from s)) kind' → Read s at kind' from to
+  read_word e {kind'} T =
       let W = word-at e in
-      let Z : Says s (word W.w) kind' from to = says-word s from to W.w W.text W.more L.inside (subst (λ y. Spotted y k) (sym W.text) S) P in
+      let w : take (to - from) (drop from s) ≡ W.w = word-slice e ∙ sym W.text in
+      let b : get_or (take (to - from) (drop from s)) 0 0 ≡ get_or s from 0 = ap (λ y. get_or y 0 0) (word-slice e ∙ slice-cons from to s 0 (word-order e) L.inside) in
+      let Z : Says s (word W.w) kind' from to = says-word s from to W.w W.text W.more L.inside (subst (λ y. Spotted y T.place) w T.spotted) (subst (λ x. Placed T.place x kind') b T.placed) in
       record { from_is = L.from_is; behind = behind-is; on = L.on; inside = L.inside; says = subst (λ y. Says s y kind' from to) (sym W.is) Z }

@@ -1,39 +1,23 @@
--- The words are told apart: one test that antt computes says that the letters are the words one behind the other, and that no two words are one. Assumes nothing.
+-- The words are told apart: tests that antt computes say that the code's list is that of the words, and that no two words are one. Assumes nothing.
 use Prim.Native.Nat.{ℕ, suc, ◌+◌, ◌≤◌, ◌<◌}
 use native.Mathlib.Omega.{arith}
 use native.Mathlib.Decide.{ℕ_discrete}
-use native.Mathlib.Numerals.{add-one}
 use mathlib.Core.Path.{◌≡◌, refl, sym, ◌∙◌, ap, subst}
-use mathlib.Core.Logic.{◌≢◌}
 use mathlib.Core.Bool.{Bool, true, false, ◌&&◌}
-use mathlib.Core.List.{List, [], ◌∷◌}
+use mathlib.Core.List.{List, [], ◌∷◌, map}
 use Prim.Native.String.{String}
-use lib.Dec.{T, eqb, leb, leb→le}
+use lib.Dec.{T, eqb, leb}
 use lib.ListN.{length, get_or}
-use lib.Seq.{slice}
+use denote.Bor.{Bor}
 use Rattle.script_terms.proofs.Tests.{both, alike, alike-one, each, each_at, eqb_yes, eqb_no}
 use Rattle.script_meaning.specs.Tokens.{bytes, same_bytes, listed, reserved, core, word, is_simple}
 use Rattle.script_meaning.specs.Reading.{is_own}
-use Rattle.script_meaning.proofs.Matching.{bytes_one, Comparing, compare-on, compare-differ, compare-short, compare-long, compare-end}
-use Rattle.script_words.specs.Words.{known, word_at, letters, Spanned, Spotted}
+use Rattle.script_meaning.proofs.Matching.{bytes_one}
+use Rattle.script_words.specs.Words.{known, word_at, Stands, Spotted}
 
-unfoldable pub starts : List ℕ
-starts = 0 ∷ 4 ∷ 9 ∷ 12 ∷ 14 ∷ 17 ∷ 19 ∷ 22 ∷ 23 ∷ 31 ∷ 34 ∷ 35 ∷ 36 ∷ 38 ∷ 44 ∷ 51 ∷ 57 ∷ 68 ∷ 74 ∷ 77 ∷ 82 ∷ 89 ∷ 92 ∷ 98 ∷ 104 ∷ 113 ∷ 131 ∷ 144 ∷ 160 ∷ 177 ∷ 188 ∷ 200 ∷ 210 ∷ 224 ∷ 239 ∷ 250 ∷ 254 ∷ 258 ∷ 272 ∷ 286 ∷ 294 ∷ 303 ∷ 313 ∷ 322 ∷ 343 ∷ 357 ∷ 366 ∷ 369 ∷ 373 ∷ 378 ∷ 394 ∷ 402 ∷ 411 ∷ 421 ∷ 422 ∷ 426 ∷ 431 ∷ []
-
--- Where word k stands among the letters.
-abbrev stands : ℕ → Bool
-stands k = leb (get_or starts k 0) (get_or starts (suc k) 0) && (leb (get_or starts (suc k) 0) 431 && same_bytes (slice (get_or starts k 0) (get_or starts (suc k) 0) letters) (word_at k))
-
-all-stand : T (each stands 56)
-unfolding starts letters word_at known core reserved
-all-stand = tt
-
-pub spanned : (k : ℕ) → k < 56 → {from to : ℕ} → from ≡ get_or starts k 0 → to ≡ get_or starts (k + 1) 0 → Spanned k from to
-spanned k h {from} {to} e f =
-    let p = both (leb (get_or starts k 0) (get_or starts (suc k) 0)) _ (each_at stands 56 all-stand k h) in
-    let q = both (leb (get_or starts (suc k) 0) 431) _ p.1 in
-    let g : to ≡ get_or starts (suc k) 0 = f ∙ ap (λ i. get_or starts i 0) (add-one k) in
-    rw (e, g) (record { order = leb→le _ _ p.0; within = leb→le _ _ q.0; is = bytes_one _ _ q.1 })
+-- The code's list has word k at place k.
+pub word-is : {l : List (Bor (List ℕ))} {k : ℕ} {w : List ℕ} {r : Bool} → Stands l k w r → k < 56 → T (each (λ i. same_bytes (get_or (map (λ x. x.now) l) i []) (word_at i)) 56) → r ≡ same_bytes (word_at k) w
+word-is {l} {k} {w} S h t = S.is ∙ ap (λ y. same_bytes y w) (bytes_one _ _ (each_at (λ i. same_bytes (get_or (map (λ x. x.now) l) i []) (word_at i)) 56 t k h))
 
 -- No two words are one.
 abbrev apart : ℕ → Bool
@@ -132,37 +116,3 @@ none-reserved {w} {k} e S =
     (λ j h.
     let i : j < 43 = omega (arith, reserved-many) in
     subst (λ y. same_bytes y w ≡ false) (bytes_one (word_at (10 + j)) (bytes (get_or reserved j "")) (each_at reserved-word 43 all-reserved j i)) (S.only (10 + j) (omega arith) ∙ eqb_no (let d : k ≡ 10 + j → ⊥ = λ z. omega arith in d)))
-
-letters-many : length letters ≡ 431
-unfolding letters
-letters-many = refl
-
--- While the bytes of a script are compared with word k, which stands among the letters from a to e.
-pub record Matching (s : List ℕ) (k a e from to i j : ℕ) : Type 0 where
-  pub span : Spanned k a e
-  pub comparing : Comparing letters s a e from to i j
-
-pub match-start : (s : List ℕ) {k a e from to : ℕ} → Spanned k a e → from ≤ to → Matching s k a e from to a from
-match-start s S h = record { span = S; comparing = record { first = S.order; second = h; is = refl } }
-
-module _ {s : List ℕ} {k a e from to i j : ℕ} (h : to ≤ length s) (M : Matching s k a e from to i j) where
-  inside : e ≤ length letters
-  inside = omega (arith, M.span.within, letters-many)
-
-  as-word : {b : Bool} → b ≡ same_bytes (slice a e letters) (slice from to s) → b ≡ same_bytes (word_at k) (slice from to s)
-  as-word q = q ∙ ap (λ y. same_bytes y (slice from to s)) M.span.is
-
-  pub match-on : i < e → j ≢ to → {b : ℕ} → b ≡ get_or letters i 0 → b ≡ get_or s j 0 → Matching s k a e from to (i + 1) (j + 1)
-  match-on l d q r = record { span = M.span; comparing = compare-on inside h M.comparing l d (sym q ∙ r) }
-
-  pub match-differ : i < e → j ≢ to → {b : ℕ} → b ≡ get_or letters i 0 → b ≢ get_or s j 0 → false ≡ same_bytes (word_at k) (slice from to s)
-  match-differ l d q r = as-word (compare-differ inside h M.comparing l d (λ z. r (q ∙ z)))
-
-  pub match-short : i < e → j ≡ to → false ≡ same_bytes (word_at k) (slice from to s)
-  match-short l q = as-word (compare-short inside h M.comparing l q)
-
-  pub match-long : e ≤ i → j ≢ to → false ≡ same_bytes (word_at k) (slice from to s)
-  match-long l q = as-word (compare-long inside h M.comparing l q)
-
-  pub match-end : e ≤ i → j ≡ to → true ≡ same_bytes (word_at k) (slice from to s)
-  match-end l q = as-word (compare-end inside h M.comparing l q)

@@ -1,6 +1,7 @@
 -- DEFINITIONS: the words that are told apart, and what a token's number says of it. Assumes nothing.
-use Rattle.std.specs.Prelude.{ℕ, ◌+◌, ◌≤◌, ◌<◌, ◌≡◌, ◌≢◌, true, false, ◌&&◌, List, [], ◌∷◌, ◌++◌, eqb, leb, length, get_or}
+use Rattle.std.specs.Prelude.{ℕ, ◌+◌, ◌≤◌, ◌<◌, ◌≡◌, ◌≢◌, Bool, true, false, ◌&&◌, List, [], ◌∷◌, ◌++◌, eqb, leb, map, length, get_or}
 use Prim.Native.String.{String}
+use denote.Bor.{Bor}
 use Rattle.std.proofs.Math.Seq.{slice}
 use Rattle.script_meaning.specs.Tokens.{bytes, same_bytes, listed, reserved, core, is_digit_byte, Token, is_simple, is_word, text_of, lex, next}
 use Rattle.script_meaning.specs.Reading.{is_opening, is_closing, is_ended, is_own}
@@ -12,14 +13,9 @@ known = core ++ (reserved ++ "0" ∷ "Bool" ∷ "QF_UF" ∷ [])
 unfoldable pub word_at : ℕ → List ℕ
 word_at k = bytes (get_or known k "")
 
--- The words one behind the other.
-unfoldable pub letters : List ℕ
-letters = bytes "truefalsenot=>andorxor=distinctite!_asBINARYDECIMALexistsHEXADECIMALforallletmatchNUMERALparSTRINGassertcheck-satcheck-sat-assumingdeclare-constdeclare-datatypedeclare-datatypesdeclare-fundeclare-sortdefine-fundefine-fun-recdefine-funs-recdefine-sortechoexitget-assertionsget-assignmentget-infoget-modelget-optionget-proofget-unsat-assumptionsget-unsat-coreget-valuepoppushresetreset-assertionsset-infoset-logicset-option0BoolQF_UF"
-
-pub record Spanned (k from to : ℕ) : Type 0 where
-  pub order : from ≤ to
-  pub within : to ≤ 431
-  pub is : slice from to letters ≡ word_at k
+-- Whether a word is the one at a place of a list, each after its own bytes.
+pub record Stands (l : List (Bor (List ℕ))) (k : ℕ) (w : List ℕ) (r : Bool) : Type 0 where
+  pub is : r ≡ same_bytes (get_or (map (λ x. x.now) l) k []) w
 
 -- w is word k of the first 54, or none of them, and k is 54.
 pub record Spotted (w : List ℕ) (k : ℕ) : Type 0 where
@@ -31,6 +27,12 @@ pub data Placed (k b : ℕ) : ℕ → Type 0 where
   told : k < 54 → Placed k b (7 + k)
   number : k ≡ 54 → is_digit_byte b ≡ true → Placed k b 5
   name : k ≡ 54 → is_digit_byte b ≡ false → Placed k b 6
+
+-- The number of a word by its bytes.
+pub record Told (w : List ℕ) (kind : ℕ) : Type 0 where
+  pub place : ℕ
+  pub spotted : Spotted w place
+  pub placed : Placed place (get_or w 0 0) kind
 
 -- What the number of a token says of it: 0 the end, 3 and 4 parentheses, 6 a name of the script's own, 7 to 16 Core's names, from 17 on the reserved words, 60 the
 -- numeral 0; anything else is 5.

@@ -2,170 +2,152 @@
 // declared"; SMT-LIB 2.6, section 3.1, for the reserved words. Rests on script_meaning, script_tokens.
 #![tactic(auto)]
 
-ghost use Rattle.std.specs.Prelude.{◌≡◌, ℕ, ◌≤◌, ◌<◌, length, get_or};
-ghost use Rattle.std.proofs.Math.Seq.{slice};
-ghost use Rattle.script_meaning.specs.Tokens.{same_bytes, is_digit_byte};
-ghost use Rattle.script_words.specs.Words.{letters, word_at, Spanned, Spotted, Placed, Read};
+ghost use Rattle.std.specs.Prelude.{◌≡◌, ℕ, ◌≤◌, ◌<◌, length, MatchOption};
+ghost use Rattle.script_meaning.specs.Tokens.{same_bytes};
+ghost use Rattle.script_tokens.specs.Kinds.{number};
+ghost use Rattle.script_words.specs.Words.{word_at, Stands, Spotted, Told, Read};
 
-use script_tokens::{Lexeme, lex_at};
+use script_tokens::{Kind, Lexeme, lex_at};
 
-// Core's names, the reserved words, the numeral 0, and two words that are names wherever they are not asked for; one behind the other.
-const LETTERS: [u8; 431] =
-    *b"truefalsenot=>andorxor=distinctite!_asBINARYDECIMALexistsHEXADECIMALforallletmatchNUMERALparSTRINGassertcheck-satcheck-sat-assumingdeclare-constdeclare-datatypedeclare-datatypesdeclare-fundeclare-sortdefine-fundefine-fun-recdefine-funs-recdefine-sortechoexitget-assertionsget-assignmentget-infoget-modelget-optionget-proofget-unsat-assumptionsget-unsat-coreget-valuepoppushresetreset-assertionsset-infoset-logicset-option0BoolQF_UF";
-
-// Where each of them begins, and the last one ends.
-const STARTS: [u16; 57] = [
-    0, 4, 9, 12, 14, 17, 19, 22, 23, 31, 34, 35, 36, 38, 44, 51, 57, 68, 74, 77, 82, 89, 92, 98,
-    104, 113, 131, 144, 160, 177, 188, 200, 210, 224, 239, 250, 254, 258, 272, 286, 294, 303, 313,
-    322, 343, 357, 366, 369, 373, 378, 394, 402, 411, 421, 422, 426, 431,
+// Core's names, the reserved words, the numeral 0, and two words that are names wherever they are not asked for. They stay places in this list: an enum of 54 would need
+// this list beside it all the same, to be found by a word's bytes.
+const WORDS: [&[u8]; 56] = [
+    b"true",
+    b"false",
+    b"not",
+    b"=>",
+    b"and",
+    b"or",
+    b"xor",
+    b"=",
+    b"distinct",
+    b"ite",
+    b"!",
+    b"_",
+    b"as",
+    b"BINARY",
+    b"DECIMAL",
+    b"exists",
+    b"HEXADECIMAL",
+    b"forall",
+    b"let",
+    b"match",
+    b"NUMERAL",
+    b"par",
+    b"STRING",
+    b"assert",
+    b"check-sat",
+    b"check-sat-assuming",
+    b"declare-const",
+    b"declare-datatype",
+    b"declare-datatypes",
+    b"declare-fun",
+    b"declare-sort",
+    b"define-fun",
+    b"define-fun-rec",
+    b"define-funs-rec",
+    b"define-sort",
+    b"echo",
+    b"exit",
+    b"get-assertions",
+    b"get-assignment",
+    b"get-info",
+    b"get-model",
+    b"get-option",
+    b"get-proof",
+    b"get-unsat-assumptions",
+    b"get-unsat-core",
+    b"get-value",
+    b"pop",
+    b"push",
+    b"reset",
+    b"reset-assertions",
+    b"set-info",
+    b"set-logic",
+    b"set-option",
+    b"0",
+    b"Bool",
+    b"QF_UF",
 ];
 
-// The numbers of the tokens that a script is made of: those of script_tokens up to 5; a name of the script's own; and 7 more than its place among the words above for
-// each of these but the last two.
-pub const END: u8 = 0;
+// How many of them are told apart from names.
+const TOLD: usize = 54;
 
-pub const OPENING: u8 = 3;
+// The words that a script is asked for, by their places.
+pub const NOT: Kind = Kind::Known(2);
 
-pub const CLOSING: u8 = 4;
+pub const EQUALS: Kind = Kind::Known(7);
 
-pub const NAME: u8 = 6;
+pub const ASSERT: Kind = Kind::Known(23);
 
-pub const NOT: u8 = 9;
+pub const CHECK_SAT: Kind = Kind::Known(24);
 
-pub const EQUALS: u8 = 14;
+pub const DECLARE_FUN: Kind = Kind::Known(29);
 
-pub const LAST_OF_CORE: u8 = 16;
+pub const DECLARE_SORT: Kind = Kind::Known(30);
 
-pub const ASSERT: u8 = 30;
+pub const EXIT: Kind = Kind::Known(36);
 
-pub const CHECK_SAT: u8 = 31;
+pub const SET_LOGIC: Kind = Kind::Known(51);
 
-pub const DECLARE_FUN: u8 = 36;
-
-pub const DECLARE_SORT: u8 = 37;
-
-pub const EXIT: u8 = 43;
-
-pub const SET_LOGIC: u8 = 58;
-
-pub const NOUGHT: u8 = 60;
+pub const NOUGHT: Kind = Kind::Known(53);
 
 // The places of the two words that are names elsewhere.
 pub const BOOL: usize = 54;
 
 pub const QF_UF: usize = 55;
 
-// A word's place among the letters.
-#[derive(Clone, Copy)]
-struct Span {
-    from: usize,
-    to: usize,
+// Whether the bytes stand at a place of a list of words. It takes the list, so that its contract can name it.
+fn stands_at(words: &[&[u8]], place: usize, word: &[u8]) -> bool
+    requires { place < length words.now }
+    ensures { Stands words.now place word.now result }
+{
+    words[place] == word
 }
 
-fn wide(x: u16) -> usize
-    ensures { result ≡ x }
+// Whether the bytes are the word at a place of the list.
+pub fn is_word(word: &[u8], place: usize) -> bool
+    requires { place < 56 }
+    ensures { result ≡ same_bytes (word_at place) word.now }
 {
-    x as usize
+    stands_at(&WORDS, place, word)
 }
 
-fn letter(i: usize) -> u8
-    requires { i < 431 }
-    ensures { result ≡ get_or letters i 0 }
+// Which of the words that are told apart the bytes are.
+fn word_of(word: &[u8]) -> Option<u8>
+    ensures { MatchOption result (Spotted word.now 54) (λ k. (k < 54) × Spotted word.now k) }
 {
-    LETTERS[i]
-}
-
-fn stretch(k: usize) -> Span
-    requires { k < 56 }
-    ensures { Spanned k result.from result.to }
-{
-    let from = wide(STARTS[k]);
-    let to = wide(STARTS[k + 1]);
-    Span { from: from, to: to }
-}
-
-// Whether the bytes between two places are word k.
-pub fn is_word(script: &[u8], from: usize, to: usize, k: usize) -> bool
-    requires { (from ≤ to) × (to ≤ length script.now) × (k < 56) }
-    ensures { result ≡ same_bytes (word_at k) (slice from to script.now) }
-{
-    let w = stretch(k);
-    let end = w.to;
-    let mut i = w.from;
-    let mut j = from;
-    while i < end {
-        if j == to {
-            return false;
+    for place in 0..TOLD {
+        if is_word(word, place) {
+            return Some(place as u8);
         }
-        if letter(i) != script[j] {
-            return false;
-        }
-        i += 1;
-        j += 1;
     }
-    if j != to {
-        return false;
-    }
-    true
+    None
 }
 
-// Which of the first 54 words the bytes between two places are; 54 if none.
-fn word_of(script: &[u8], from: usize, to: usize) -> usize
-    requires { (from ≤ to) × (to ≤ length script.now) }
-    ensures { Spotted (slice from to script.now) result }
+// What a word is to the reader: a word with a digit in front is no symbol.
+fn kind_of(word: &[u8]) -> Kind
+    requires { 0 < length word.now }
+    ensures { Told word.now (number result) }
 {
-    let mut k = 0;
-    while k < 54 {
-        if is_word(script, from, to, k) {
-            return k;
-        }
-        k += 1;
+    match word_of(word) {
+        Some(place) => Kind::Known(place),
+        None if word[0].is_ascii_digit() => Kind::Other,
+        None => Kind::Name,
     }
-    k
-}
-
-fn is_digit(b: u8) -> bool
-    ensures { result ≡ is_digit_byte b }
-{
-    if b < 48 {
-        return false;
-    }
-    if 57 < b {
-        return false;
-    }
-    true
-}
-
-// The number of a word by its place among the words, and its first byte.
-fn kind_of(k: usize, first: u8) -> u8
-    requires { k ≤ 54 }
-    ensures { Placed k first result }
-{
-    if k < 54 {
-        return (7 + k) as u8;
-    }
-    if is_digit(first) {
-        return 5;
-    }
-    6
 }
 
 // The next token.
 pub fn read_at(script: &[u8], at: usize) -> Lexeme
     requires { at ≤ length script.now }
-    ensures { Read script.now at result.kind result.from result.to }
+    ensures { Read script.now at (number result.kind) result.from result.to }
 {
     let x = lex_at(script, at);
-    if x.kind != 6 {
-        return x;
-    }
-    let from = x.from;
-    let to = x.to;
-    let k = word_of(script, from, to);
-    let kind = kind_of(k, script[from]);
-    Lexeme {
-        kind: kind,
-        from: from,
-        to: to,
+    match x.kind {
+        Kind::Name => {
+            let kind = kind_of(&script[x.from..x.to]);
+            Lexeme { kind, ..x }
+        }
+        _ => x,
     }
 }

@@ -135,7 +135,7 @@ job-most s {cs} e =
     omega (arith, L.records, L.differs, L.checks)
 
 -- What the table holds.
-module _ {s w : List ℕ} {c : Counts} {cs : List Command} (W : Whole s w c cs) (e : reading s ≡ got cs) where
+module _ {s w : List ℕ} {c : Counts} {cs : List Command} (W : Whole s w cs c) (e : reading s ≡ got cs) where
   field_at : (S i : ℕ) → i < length (items_from 1001 (parts_of cs) [] cs) → field_in w S i ≡ field_of (shift_item S (get_or (items_from 1001 (parts_of cs) [] cs) i checking))
   field_at S i h =
       let fs = items_from 1001 (parts_of cs) [] cs in

@@ -47,7 +47,7 @@ pub record JobAsk (w : List ℕ) (c : Counts) (room : List ℕ) : Type 0 where
   pub script : List ℕ
   pub commands : List Command
   pub read : reading script ≡ got commands
-  pub whole : Whole script w c commands
+  pub whole : Whole script w commands c
   pub long : 46510 ≤ length room
 
 -- The room has the job in front, and every byte behind it is as it was.
@@ -56,4 +56,4 @@ pub record Job (room room' : List ℕ) (to : ℕ) (cs : List Command) : Type 0 w
   pub size : to ≡ length (job_of cs)
 
 pub record JobPut (w : List ℕ) (c : Counts) (room room' : List ℕ) (to : ℕ) : Type 0 where
-  pub put : (s : List ℕ) (cs : List Command) → reading s ≡ got cs → Whole s w c cs → Job room room' to cs
+  pub put : (s : List ℕ) (cs : List Command) → reading s ≡ got cs → Whole s w cs c → Job room room' to cs

@@ -8,7 +8,7 @@ ghost use Rattle.script_meaning.proofs.Shift.{shift};
 ghost use Rattle.script_write.specs.Writing.{pair_of, triple_of, FieldPut, FieldsAsk, FieldsPut, JobAsk, JobPut};
 
 use report_write::{put_front, put_number};
-use script_shelf::{Counts, cell, wide};
+use script_shelf::{Counts, cell};
 
 // While a script is read its parts are numbered from 1,001 on; in the job they follow the symbols.
 fn tag_of(symbols: u16, number: u16) -> u16
@@ -72,13 +72,9 @@ fn put_fields(work: &[u16], counts: Counts, room: &mut [u8], start: usize) -> us
     requires { FieldsAsk work.now counts room.old start }
     ensures { FieldsPut work.now counts room.old room.new start result }
 {
-    let n = wide(counts.fields);
-    let symbols = counts.symbols;
     let mut at = start;
-    let mut i = 0;
-    while i < n {
-        at = put_field(work, symbols, i, room, at);
-        i += 1;
+    for i in 0..usize::from(counts.fields) {
+        at = put_field(work, counts.symbols, i, room, at);
     }
     at
 }

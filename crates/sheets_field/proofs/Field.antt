@@ -5,6 +5,7 @@ use native.Mathlib.Omega.{arith}
 use mathlib.Core.Path.{◌≡◌, refl, sym, ◌∙◌, ap, subst}
 use mathlib.Core.Logic.{◌⊎◌, inl, inr}
 use mathlib.Core.List.{List, [], ◌∷◌, Memᴰ}
+use Rattle.std.proofs.Common.{Option, None, Some}
 use lib.ListN.{length, get_or}
 use Rattle.meaning.specs.Reasons.{Above}
 use Rattle.meaning.proofs.Rising.{above-all}
@@ -20,7 +21,7 @@ use Rattle.report_read.specs.Read.{Holds}
 use Rattle.report_read.proofs.Read.{holds-field, front-size}
 use Rattle.report_numbers.proofs.Written.{length-list}
 use Rattle.sheets_walk.specs.Walk.{listed_sheets, Found}
-use Rattle.sheets_field.specs.Field.{sheets_bytes, SheetsOf, Laid, right, wrong, Seen}
+use Rattle.sheets_field.specs.Field.{sheets_bytes, SheetsOf, Laid, Seen}
 
 -- Two lists that rise and have the same numbers are one.
 pub rising-one : (m : ℕ) (L X : List ℕ) → Above m L → Above m X → ((h : ℕ) → Memᴰ h L → Memᴰ h X) → ((h : ℕ) → Memᴰ h X → Memᴰ h L) → L ≡ X
@@ -97,11 +98,11 @@ laid_of {w' = w'} {c = c} f e q = record {
   kept = scratch-of f;
 }
 
-pub seen-right : {job w w' report : List ℕ} {count at c end : ℕ} → Found job w w' count c → Holds report at (sheets_bytes (sheets_in c w')) → end ≡ at + 3 + 2 * c → Seen job w w' report count at end
-seen-right {w' = w'} {c = c} {end = end} f h q = record { stands = right {end = end} (sheets-of f) h (omega (arith, q, field-length w' c)) (omega (arith, q)); kept = scratch-of f }
+pub seen-right : {job w w' report : List ℕ} {count at c end : ℕ} → Found job w w' count c → Holds report at (sheets_bytes (sheets_in c w')) → end ≡ at + 3 + 2 * c → Seen job w w' report count at (Some end)
+seen-right {w' = w'} {c = c} f h q = record { stands = (sheets_in c w', sheets-of f, h, omega (arith, q, field-length w' c)); kept = scratch-of f }
 
-pub seen-wrong : {job w w' report : List ℕ} {count at c end : ℕ} → Found job w w' count c → (Holds report at (sheets_bytes (sheets_in c w')) → ⊥) → end ≡ 0 → Seen job w w' report count at end
-seen-wrong {report = report} {at = at} {end = end} f h q = record { stands = wrong {end = end} (λ hs s k. h (subst (λ (x : List ℕ). Holds report at (sheets_bytes x)) (sheets-one s (sheets-of f)) k)) q; kept = scratch-of f }
+pub seen-wrong : {job w w' report : List ℕ} {count at c : ℕ} → Found job w w' count c → (Holds report at (sheets_bytes (sheets_in c w')) → ⊥) → Seen job w w' report count at None
+seen-wrong {report = report} {at = at} f h = record { stands = λ hs s k. h (subst (λ (x : List ℕ). Holds report at (sheets_bytes x)) (sheets-one s (sheets-of f)) k); kept = scratch-of f }
 
 -- The field from its parts.
 pub held_of : (report : List ℕ) (at c : ℕ) (w : List ℕ) → at < length report → get_or report at 0 ≡ 138 → Holds report (at + 1) (two (2 * c)) → Holds report (at + 3) (numbers (sheets_in c w)) → Holds report at (sheets_bytes (sheets_in c w))

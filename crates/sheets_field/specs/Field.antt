@@ -1,7 +1,7 @@
 -- Document 02, No. 9: "kind 8A after each 84 or 86: the distinct sheets of that reason, rising, without 0". The field that is written, and whether it stands at a
 -- place.
 -- Assumes nothing.
-use Rattle.std.specs.Prelude.{ℕ, ◌+◌, ◌≤◌, ◌<◌, ◌≡◌, List, length}
+use Rattle.std.specs.Prelude.{ℕ, ◌+◌, ◌≤◌, ◌≡◌, List, Option, None, Some, length}
 use Rattle.job_field.specs.Items.{sheets_of}
 use Rattle.job_field.specs.Reading.{items_in}
 use Rattle.table.specs.Map.{list_in, Within}
@@ -27,11 +27,11 @@ pub record Laid (job w w' room room' : List ℕ) (count at end : ℕ) : Type 0 w
   pub few : length sheets ≤ count
   pub kept : Within scratch w w'
 
--- The 8A of the list's sheets stands at a place, and it ends at `end`; or it does not, and `end` is 0.
-pub data Standing (job w report : List ℕ) (count at : ℕ) : ℕ → Type 0 where
-  right : {hs : List ℕ} {end : ℕ} → SheetsOf job w count hs → Holds report at (sheets_bytes hs) → end ≡ at + length (sheets_bytes hs) → 0 < end → Standing job w report count at end
-  wrong : {end : ℕ} → ((hs : List ℕ) → SheetsOf job w count hs → Holds report at (sheets_bytes hs) → ⊥) → end ≡ 0 → Standing job w report count at end
+-- The 8A of the list's sheets stands at a place and ends at another, or none stands there.
+abbrev pub Standing : List ℕ → List ℕ → List ℕ → ℕ → ℕ → Option ℕ → Type 0
+Standing job w report count at (Some end) = (hs : List ℕ) × SheetsOf job w count hs × Holds report at (sheets_bytes hs) × (end ≡ at + length (sheets_bytes hs))
+Standing job w report count at None = (hs : List ℕ) → SheetsOf job w count hs → Holds report at (sheets_bytes hs) → ⊥
 
-pub record Seen (job w w' report : List ℕ) (count at end : ℕ) : Type 0 where
+pub record Seen (job w w' report : List ℕ) (count at : ℕ) (end : Option ℕ) : Type 0 where
   pub stands : Standing job w report count at end
   pub kept : Within scratch w w'

@@ -29,10 +29,8 @@ fn write_numbers(room: &mut [u8], at: usize, work: &[u16], count: usize)
     requires { Large work.now × (count ≤ front_size) × (at + 2 * count ≤ length room.old) }
     ensures { room.new ≡ laid at (numbers (sheets_in count work.now)) room.old }
 {
-    let mut i = 0;
-    while i < count {
+    for i in 0..count {
         put_sheet(room, at, work, i);
-        i += 1;
     }
 }
 
@@ -69,11 +67,8 @@ fn are_numbers(report: &[u8], at: usize, work: &[u16], count: usize) -> bool
     requires { Large work.now × (count ≤ front_size) × (at + 2 * count ≤ length report.now) }
     ensures { (result ≡ true) ↔ Holds report.now at (numbers (sheets_in count work.now)) }
 {
-    let mut i = 0;
-    while i < count {
-        if is_sheet(report, at, work, i) {
-            i += 1;
-        } else {
+    for i in 0..count {
+        if !is_sheet(report, at, work, i) {
             return false;
         }
     }
@@ -97,14 +92,21 @@ fn is_field(report: &[u8], at: usize, work: &[u16], count: usize) -> bool
     are_numbers(report, at + 3, work, count)
 }
 
-// Whether the 8A of the records of the list stands at a place: where it ends, or 0 where it does not.
-pub fn is_sheets(job: &[u8], report: &[u8], at: usize, work: &mut [u16], count: usize) -> usize
+// Where the 8A of the records of the list ends that stands at a place, or none where it does not stand there.
+pub fn is_sheets(
+    job: &[u8],
+    report: &[u8],
+    at: usize,
+    work: &mut [u16],
+    count: usize,
+) -> Option<usize>
     requires { Listed job.now work.old count × (at ≤ length report.now) }
     ensures { Seen job.now work.old work.new report.now count at result }
 {
     let c = find_sheets(job, work, count);
     if is_field(report, at, work, c) {
-        return at + 3 + 2 * c;
+        Some(at + 3 + 2 * c)
+    } else {
+        None
     }
-    0
 }

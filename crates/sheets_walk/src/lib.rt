@@ -7,7 +7,7 @@ ghost use Rattle.job_field.specs.Items.{sheets_in};
 ghost use Rattle.job_field.specs.Answer.{note_said, said};
 ghost use Rattle.sheets_walk.specs.Walk.{sheets_at, first_sheet, Listed, Meeting, Turn, Gathered, Clear, Found};
 
-use job_field::{Field, Line, behind, read, wide};
+use job_field::{Fault, Field, Line, behind, read};
 
 // How many sheets a note has, and a field: one for each record that it stands for.
 fn sheets_held(l: Line) -> u16
@@ -20,15 +20,12 @@ fn sheets_held(l: Line) -> u16
     }
 }
 
-fn records_here(field: Field) -> u16
+fn records_here(field: Result<Field, Fault>) -> u16
     ensures { result ≡ length (sheets_at (said field)) }
 {
     match field {
-        Field::Bad(_) => 0,
-        Field::Header(_, _, _) => 0,
-        Field::Noted(l) => sheets_held(l),
-        Field::Posed(_) => 0,
-        Field::End => 0,
+        Ok(Field::Noted(l)) => sheets_held(l),
+        _ => 0,
     }
 }
 
@@ -43,29 +40,26 @@ fn sheet_in(l: Line) -> u16
     }
 }
 
-fn sheet_here(field: Field) -> u16
+fn sheet_here(field: Result<Field, Fault>) -> u16
     ensures { result ≡ first_sheet (sheets_at (said field)) }
 {
     match field {
-        Field::Bad(_) => 0,
-        Field::Header(_, _, _) => 0,
-        Field::Noted(l) => sheet_in(l),
-        Field::Posed(_) => 0,
-        Field::End => 0,
+        Ok(Field::Noted(l)) => sheet_in(l),
+        _ => 0,
     }
 }
 
 // A field is passed, behind so many records: if it is the one at place i of the list, its sheet is filed. Says which place of the list is due then.
-fn take_one(field: Field, work: &mut [u16], passed: usize, i: usize) -> usize
+fn take_one(field: Result<Field, Fault>, work: &mut [u16], passed: usize, i: usize) -> usize
     requires { Meeting (said field) work.old passed i }
     ensures { Turn (said field) work.old passed i work.new result }
 {
-    let here = wide(records_here(field));
+    let here = usize::from(records_here(field));
     let due = table::record_place(table::listed(work, i));
     if passed + here < due {
         return i;
     }
-    sheets_find::file(work, wide(sheet_here(field)));
+    sheets_find::file(work, usize::from(sheet_here(field)));
     i + 1
 }
 
@@ -80,7 +74,7 @@ fn file_listed(job: &[u8], work: &mut [u16], count: usize)
     while i < count {
         let field = read(job, at);
         i = take_one(field, work, passed, i);
-        passed += wide(records_here(field));
+        passed += usize::from(records_here(field));
         at = behind(job, at);
     }
 }

@@ -63,7 +63,7 @@ module _ {N U len most c : ℕ} {w w₁ : List ℕ} (h : Loaded N len w) (u : U 
   seating-of = record { long = omega (arith, h.long, d.kept.size); few = h.few; units = u; low = λ x l. omega (arith, d.labels.low x) }
 
   -- The count is above the limit.
-  pub told-spent : (limit : ℕ) (watch : Bool) → most ≡ most_of N limit watch → {room : List ℕ} → limit < c → Answered N U len limit watch w room w₁ room (record { number = 19; place = 0; passes = 0 })
+  pub told-spent : (limit : ℕ) (watch : Bool) → most ≡ most_of N limit watch → {room : List ℕ} → limit < c → Answered N U len limit watch w room w₁ room 19 0 0
   told-spent limit watch e₀ {room} l = record { kept = d.kept; place = refl; leaders = []; told = go watch (rw e₀ at d.made); front = none-laid room }
     where
       go : (b : Bool) → c ≡ min (most_of N limit b) d.count → Told N U (records_in len w) limit b 19 0 []
@@ -87,7 +87,7 @@ module _ {N U len most c : ℕ} {w w₁ : List ℕ} (h : Loaded N len w) (u : U 
     few : d.count ≤ N - 1
     few = passes-most N (records_in len w) (small-in h) h.some d.passes
 
-    pub told-done : (limit : ℕ) (watch : Bool) → most ≡ most_of N limit watch → {room room' : List ℕ} → c ≤ limit → room' ≡ laid 0 (numbers (gather (leader_in w₂) N)) room → Answered N U len limit watch w room w₂ room' (record { number = 0; place = 0; passes = c })
+    pub told-done : (limit : ℕ) (watch : Bool) → most ≡ most_of N limit watch → {room room' : List ℕ} → c ≤ limit → room' ≡ laid 0 (numbers (gather (leader_in w₂) N)) room → Answered N U len limit watch w room w₂ room' 0 0 c
     told-done limit watch e₀ l e = record { kept = within-trans d.kept (within_wider slow_part (omega arith) (omega arith) s.frame); place = refl; leaders = gather (leader_in w₂) N; told = go watch (rw e₀ at d.made); front = e }
       where
         go : (b : Bool) → c ≡ min (most_of N limit b) d.count → Told N U (records_in len w) limit b 0 c (gather (leader_in w₂) N)

@@ -8,7 +8,6 @@ use Rattle.leading.specs.Leading.{leader_in, Seated}
 use Rattle.report.specs.Report.{numbers, laid}
 use Rattle.slow_passes.specs.Passes.{Told}
 use Rattle.slow_close.specs.Closing.{slow_part}
-use Rattle.slow_answer.specs.declared.Count.{Count}
 
 -- N tags of which those from U up are units have labels that are tags.
 pub record Seating (w : List ℕ) (N U : ℕ) : Type 0 where
@@ -27,10 +26,10 @@ pub record Laying (w room : List ℕ) (N U : ℕ) (w' room' : List ℕ) : Type 0
   pub seated : Seated w w' N U
   pub front : room' ≡ laid 0 (numbers (gather (leader_in w') N)) room
 
--- The answer, and the leaders that it has at the front of the room.
-pub record Answered (N U len limit : ℕ) (watch : Bool) (w room w' room' : List ℕ) (r : Count) : Type 0 where
+-- The answer, which is a number, a place and a count, and the leaders that it has at the front of the room.
+pub record Answered (N U len limit : ℕ) (watch : Bool) (w room w' room' : List ℕ) (n p c : ℕ) : Type 0 where
   pub kept : Within slow_part w w'
-  pub place : r.place ≡ 0
+  pub place : p ≡ 0
   pub leaders : List ℕ
-  pub told : Told N U (records_in len w) limit watch r.number r.passes leaders
+  pub told : Told N U (records_in len w) limit watch n c leaders
   pub front : room' ≡ laid 0 (numbers leaders) room

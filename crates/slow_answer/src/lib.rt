@@ -1,5 +1,5 @@
 // What the simulator is told: the closure by passes, and the leader of every tag at the front of the room; or that the limit is spent. Document 02, No. 12.
-// Rests on slow_close, leading (the seats of the units) and answer_why (how a leader is written).
+// Rests on call_look (why it refuses), slow_close, leading (the seats of the units) and answer_why (how a leader is written).
 #![tactic(auto)]
 
 ghost use Rattle.std.specs.Prelude.{◌≡◌, ℕ, ◌*◌, ◌≤◌, length};
@@ -8,24 +8,15 @@ ghost use Rattle.table.specs.Map.{gather, Loaded};
 ghost use Rattle.leading.specs.Leading.{leader_in, Seated};
 ghost use Rattle.report.specs.Report.{numbers, laid};
 ghost use Rattle.answer_why.specs.Why.{Labelled};
+ghost use Rattle.call_look.specs.Seen.{number_of, place_of, length_of};
 ghost use Rattle.slow_answer.specs.Telling.{Seating, most_of, Laying, Answered};
 
 use answer_why::put_leader;
+use call_look::{Reason, Refusal};
 use leading::seat_units;
 use slow_close::advance;
 use table::{SAVED, SINCE};
 use table_labels::count_up;
-
-// What the call answers: the documents' number, its place, and how many passes changed something.
-#[derive(Clone, Copy)]
-pub struct Count {
-    pub number: u8,
-    pub place: usize,
-    pub passes: usize,
-}
-
-// The number of a count above the limit.
-const SPENT: u8 = 19;
 
 // Every label has its leader for its seat.
 fn seat_all(work: &mut [u16], size: usize, unit: usize)
@@ -41,10 +32,8 @@ fn put_leaders(room: &mut [u8], work: &[u16], size: usize)
     requires { Labelled work.now size × (2 * size ≤ length room.old) }
     ensures { room.new ≡ laid 0 (numbers (gather (leader_in work.now) size)) room.old }
 {
-    let mut i = 0;
-    while i < size {
+    for i in 0..size {
         put_leader(room, 0, work, i);
-        i += 1;
     }
 }
 
@@ -71,7 +60,7 @@ fn lay_leaders(room: &mut [u8], work: &mut [u16], size: usize, unit: usize)
     put_leaders(room, work, size);
 }
 
-// Closes all records by passes and writes the leaders; or answers 19 where more than `limit` passes change something. One who watches gets the leaders after `limit` of them.
+// Closes all records by passes and writes the leaders, and answers how many passes changed something; or 19 where more than `limit` passes change something. One who watches gets the leaders after `limit` of them.
 pub fn answer_passes(
     room: &mut [u8],
     work: &mut [u16],
@@ -80,23 +69,15 @@ pub fn answer_passes(
     len: usize,
     limit: usize,
     watch: bool,
-) -> Count
+) -> Result<usize, Refusal>
     requires { Loaded size len work.old × (unit ≤ size) × (2 * size ≤ length room.old) }
-    ensures { Answered size unit len limit watch work.old room.old work.new room.new result }
+    ensures { Answered size unit len limit watch work.old room.old work.new room.new (number_of result) (place_of result) (length_of result) }
 {
     let most = most_passes(size, limit, watch);
     let done = advance(work, size, len, most);
     if done > limit {
-        return Count {
-            number: SPENT,
-            place: 0,
-            passes: 0,
-        };
+        return Err(Refusal::of(Reason::LimitSpent));
     }
     lay_leaders(room, work, size, unit);
-    Count {
-        number: 0,
-        place: 0,
-        passes: done,
-    }
+    Ok(done)
 }

@@ -2,11 +2,12 @@
 // answer that slow_rest's specs define. That two outcomes are one is proved here. Rests on call_intake, where the record table has its part, and on slow_rest.
 #![tactic(auto)]
 
+ghost use Rattle.call_look.specs.Seen.{number_of, place_of, length_of};
 ghost use Rattle.slow_rest.specs.Counted.{Counted};
 
 use call_intake::receive;
+pub use call_look::{Reason, Refusal};
 use records::Record;
-pub use slow_rest::Count;
 use slow_rest::count_rest;
 
 // Closes all records of a job by passes: the count, and the leader of every tag at the front of the room; or 19 where more than `limit` passes change something. One who
@@ -18,9 +19,9 @@ pub fn passes(
     work: &mut [u16],
     limit: usize,
     watch: bool,
-) -> Count
-    ensures { Counted job.now room.old records.old work.old limit watch result.number result.place result.passes room.new records.new work.new }
+) -> Result<usize, Refusal>
+    ensures { Counted job.now room.old records.old work.old limit watch (number_of result) (place_of result) (length_of result) room.new records.new work.new }
 {
-    let s = receive(job, records, work);
-    count_rest(job, room, work, s, limit, watch)
+    let looked = receive(job, records, work);
+    count_rest(job, room, work, looked, limit, watch)
 }

@@ -1,4 +1,3 @@
 pub mod Chain
-pub mod Loops
 pub mod Views
 pub mod Rows

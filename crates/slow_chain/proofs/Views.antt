@@ -4,7 +4,7 @@ use native.Mathlib.Omega.{arith}
 use native.Mathlib.Numerals.{add-one}
 use native.Mathlib.Decide.{dec_lt}
 use mathlib.Core.Path.{◌≡◌, sym, ap, ◌∙◌, fun_ext}
-use mathlib.Core.Logic.{◌⊎◌, inl, inr}
+use mathlib.Core.Logic.{inl, inr}
 use mathlib.Core.List.{List, ◌++◌, map}
 use lib.ListN.{length, take, drop, get_or, set, length-drop, length-map, length-set, get_or-map}
 use lib.Seq.{get_or-take, get_or-drop, length-take-le}
@@ -12,12 +12,13 @@ use Rattle.meaning.specs.Labels.{into}
 use Rattle.meaning.specs.Joins.{put}
 use Rattle.meaning.proofs.Relabel.{into-miss, get_d_any}
 use Rattle.meaning.specs.Limits.{most_records, most_tags}
-use Rattle.table.specs.Map.{label_of, saved_of, next_of, head_of, Within}
+use Rattle.std.specs.List.{CopiedTo, SameBelow, SameFrom}
+use Rattle.table.specs.Map.{seen, saved_of, next_of, head_of, Within}
 use Rattle.table.proofs.Frame.{seen_at, seen-past, seen-in, seen-out, within-trans, within_wider, within-set}
-use Rattle.table.specs.Places.{HEADS, LABEL, Large, NEXT, SAVED, SINCE, all_of, chain_part, from_to, head_count}
+use Rattle.table.specs.Places.{HEADS, Region, Large, NEXT, SAVED, all_of, chain_part, from_to, head_count}
 use Rattle.table_labels.specs.Parts.{Own, Fills}
 use Rattle.table_labels.proofs.Views.{part_at, part-within, lent-within, lent_at, seen-zero}
-use Rattle.slow_chain.specs.Parts.{Raised, Lowered, Preserved, Restored, Cleared, NewLabelled}
+use Rattle.slow_chain.specs.Parts.{Cleared, NewLabelled}
 
 -- Relabelling the part of the first N labels to come is relabelling all: the others are no tag's.
 pub new-labelled : (N : ℕ) (w w' v : List ℕ) (lo hi : ℕ) → Large w → N ≤ most_tags → hi < N → Own N (saved_of w) → w' ≡ take SAVED.at w ++ (v ++ drop N (drop SAVED.at w)) → v ≡ map (into lo hi) (take N (drop SAVED.at w))
@@ -54,61 +55,19 @@ module _ (w w' v : List ℕ) (long : Large w) where
       head : (b : ℕ) → b < head_count → get_or w' (HEADS.at + b) 0 ≡ 0
       head b l = let q : HEADS.at + b ≡ NEXT.at + (most_records + b) = omega arith in rw q (zero-at (most_records + b) (omega arith))
 
--- The labels and what is saved of them stand in one part, SAVED.at - LABEL.at places apart.
-module _ (w w' v : List ℕ) (long : Large w) (s : length v ≡ length (take (SINCE.at - LABEL.at) (drop LABEL.at w))) (e : w' ≡ take LABEL.at w ++ (v ++ drop (SINCE.at - LABEL.at) (drop LABEL.at w))) where
-  size : length v ≡ SINCE.at - LABEL.at
-  size = s ∙ length-take-le (SINCE.at - LABEL.at) (drop LABEL.at w) (rw length-drop (omega arith))
+-- A region is copied to another of as many tags, with the same rule past the end: the other shows then what the one did.
+module _ (w w' : List ℕ) (from to : Region) (size : from.size ≡ to.size) (past : from.past ≡ to.past) (still : length w' ≡ length w) (copied : CopiedTo w w' from.at to.at to.size) (low : SameBelow w w' to.at) (high : SameFrom w w' (to.at + to.size)) where
+  pub copied-frame : Within (all_of to) w w'
+  copied-frame = record { size = still; same = λ i h. elim h [ inl l ↦ low i 0 l | inr l ↦ high i 0 l ] }
 
-  part : Within (from_to LABEL.at SINCE.at) w w'
-  part = lent-within LABEL.at (SINCE.at - LABEL.at) w w' v (omega arith) s e
-
-  new : (x : ℕ) → x < SINCE.at - LABEL.at → get_or w' (LABEL.at + x) 0 ≡ get_or v x 0
-  new x l = rw e (part_at LABEL.at (SINCE.at - LABEL.at) w v (omega arith) (size) x l)
-
-  old : (x : ℕ) → x < SINCE.at - LABEL.at → get_or (take (SINCE.at - LABEL.at) (drop LABEL.at w)) x 0 ≡ get_or w (LABEL.at + x) 0
-  old x l = get_or-take (SINCE.at - LABEL.at) (drop LABEL.at w) x 0 l ∙ get_or-drop LABEL.at w x 0
-
-  whole : length (take (SINCE.at - LABEL.at) (drop LABEL.at w)) ≡ SINCE.at - LABEL.at
-  whole = length-take-le (SINCE.at - LABEL.at) (drop LABEL.at w) (rw length-drop (omega arith))
-
-  -- A number of the part that is as it was, at the place i of the table.
-  still : (i : ℕ) → LABEL.at ≤ i → i < SINCE.at → get_or v (i - LABEL.at) 0 ≡ get_or (take (SINCE.at - LABEL.at) (drop LABEL.at w)) (i - LABEL.at) 0 → get_or w' i 0 ≡ get_or w i 0
-  still i l k q = let c : LABEL.at + (i - LABEL.at) ≡ i = omega arith in
-      ap (λ (n : ℕ). get_or w' n 0) (sym c) ∙ new (i - LABEL.at) (omega arith) ∙ q ∙ old (i - LABEL.at) (omega arith) ∙ ap (λ (n : ℕ). get_or w n 0) c
-
-  pub preserved : Raised (take (SINCE.at - LABEL.at) (drop LABEL.at w)) v (SAVED.at - LABEL.at) → Preserved w w'
-  preserved r = record { frame = record { size = part.size; same = λ i. same i }; saved = fun_ext (λ x. go x (dec_lt x most_tags)) }
+  pub copied-seen : seen to w' ≡ seen from w
+  copied-seen = fun_ext (λ x. go x (dec_lt x to.size))
     where
-      inside : (i : ℕ) → i < SAVED.at → Dec (i < LABEL.at) → get_or w' i 0 ≡ get_or w i 0
-      inside i l (yes k) = part.same i (inl k)
-      inside i l (no k) = still i (omega arith) (omega arith) (r.under (i - LABEL.at) (omega arith))
-
-      same : (i : ℕ) → (i < SAVED.at) ⊎ (SINCE.at ≤ i) → get_or w' i 0 ≡ get_or w i 0
-      same i (inl l) = inside i l (dec_lt i LABEL.at)
-      same i (inr l) = part.same i (inr l)
-
-      go : (x : ℕ) → Dec (x < most_tags) → saved_of w' x ≡ label_of w x
+      go : (x : ℕ) → Dec (x < to.size) → seen to w' x ≡ seen from w x
       go x (yes l) =
-          let c : SAVED.at + x ≡ LABEL.at + (SAVED.at - LABEL.at + x) = omega arith in
-          seen_at SAVED w' x l ∙ ap (λ (n : ℕ). get_or w' n 0) c ∙ new (SAVED.at - LABEL.at + x) (omega arith) ∙ r.above x (rw whole (omega arith)) ∙ old x (omega arith) ∙ sym (seen_at LABEL w x l)
-      go x (no l) = seen-past SAVED w' x (omega arith) ∙ sym (seen-past LABEL w x (omega arith))
-
-  pub restored : Lowered (take (SINCE.at - LABEL.at) (drop LABEL.at w)) v (SAVED.at - LABEL.at) → Restored w w'
-  restored r = record { frame = record { size = part.size; same = λ i. same i }; labels = fun_ext (λ x. go x (dec_lt x most_tags)) }
-    where
-      behind : (i : ℕ) → NEXT.at ≤ i → Dec (i < SINCE.at) → get_or w' i 0 ≡ get_or w i 0
-      behind i l (yes k) = still i (omega arith) k (r.above (i - LABEL.at) (rw whole (omega arith)))
-      behind i l (no k) = part.same i (inr (omega arith))
-
-      same : (i : ℕ) → (i < LABEL.at) ⊎ (NEXT.at ≤ i) → get_or w' i 0 ≡ get_or w i 0
-      same i (inl l) = part.same i (inl l)
-      same i (inr l) = behind i l (dec_lt i SINCE.at)
-
-      go : (x : ℕ) → Dec (x < most_tags) → label_of w' x ≡ saved_of w x
-      go x (yes l) =
-          let c : LABEL.at + (SAVED.at - LABEL.at + x) ≡ SAVED.at + x = omega arith in
-          seen_at LABEL w' x l ∙ new x (omega arith) ∙ r.under x (rw whole (omega arith)) ∙ old (SAVED.at - LABEL.at + x) (omega arith) ∙ ap (λ (n : ℕ). get_or w n 0) c ∙ sym (seen_at SAVED w x l)
-      go x (no l) = seen-past LABEL w' x (omega arith) ∙ sym (seen-past SAVED w x (omega arith))
+          let e : to.at + x - to.at ≡ x = omega arith in
+          seen_at to w' x l ∙ copied (to.at + x) 0 (omega arith) (omega arith) ∙ rw e (sym (seen_at from w x (rw size l)))
+      go x (no l) = seen-past to w' x (omega arith) ∙ ap (λ (f : ℕ → ℕ). f x) (sym past) ∙ sym (seen-past from w x (rw size (omega arith)))
 
 -- Place i was put at the head of a bucket's chain.
 module _ (w w' : List ℕ) (i b : ℕ) (long : Large w) (room : i < most_records) (low : b < head_count) (e : w' ≡ set (set w (NEXT.at + i) (head_of w b)) (HEADS.at + b) (i + 1)) where

@@ -1,6 +1,6 @@
 -- Machinery: parts of the table that a pass writes. No meaning rests on it.
 -- Assumes nothing.
-use Rattle.std.specs.Prelude.{ℕ, ◌+◌, ◌≤◌, ◌<◌, ◌≡◌, List, length, get_or}
+use Rattle.std.specs.Prelude.{ℕ, ◌≡◌, List}
 use Rattle.meaning.specs.Labels.{into}
 use Rattle.table.specs.Map.{label_of, saved_of, next_of, head_of, Within}
 use Rattle.table.specs.Places.{LABEL, SAVED, all_of, chain_part}
@@ -22,14 +22,3 @@ pub record Cleared (w w' : List ℕ) : Type 0 where
   pub frame : Within chain_part w w'
   pub heads : (b : ℕ) → head_of w' b ≡ 0
   pub nexts : (r : ℕ) → next_of w' r ≡ 0
-
--- The numbers before the last `gap` are written `gap` places behind as well; and those `gap` places behind come to the front.
-pub record Raised (l l' : List ℕ) (gap : ℕ) : Type 0 where
-  pub size : length l' ≡ length l
-  pub under : (i : ℕ) → i < gap → get_or l' i 0 ≡ get_or l i 0
-  pub above : (i : ℕ) → gap + i < length l → get_or l' (gap + i) 0 ≡ get_or l i 0
-
-pub record Lowered (l l' : List ℕ) (gap : ℕ) : Type 0 where
-  pub size : length l' ≡ length l
-  pub under : (i : ℕ) → gap + i < length l → get_or l' i 0 ≡ get_or l (gap + i) 0
-  pub above : (i : ℕ) → length l ≤ gap + i → get_or l' i 0 ≡ get_or l i 0

@@ -24,14 +24,9 @@ link_in w i = found_in w (key_of w i)
 abbrev pub Chained : List ℕ → ℕ → Type 0
 Chained w i = Chains (eqn_of w) (head_of w) (next_of w) i
 
--- The chains hold places below i, so that its record can be looked up; and one chain can be followed.
+-- The chains hold places below i, so that its record can be looked up.
 pub record Finding (N len : ℕ) (w : List ℕ) (i : ℕ) : Type 0 where
   pub loaded : Loaded N len w
   pub place : i < len
   pub heads : (b : ℕ) → head_of w b ≤ i
-  pub falls : (r : ℕ) → next_of w r ≤ r
-
-pub record Seeking (N len : ℕ) (w : List ℕ) (from : ℕ) : Type 0 where
-  pub loaded : Loaded N len w
-  pub low : from ≤ len
   pub falls : (r : ℕ) → next_of w r ≤ r

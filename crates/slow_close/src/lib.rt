@@ -29,10 +29,10 @@ fn meet_new(work: &mut [u16], size: usize, s: Tag, t: Tag) -> bool
 {
     let a = table::seat(work, s);
     let b = table::seat(work, t);
-    if a.is(b) {
+    if a == b {
         return false;
     }
-    if a.below(b) {
+    if a < b {
         slow_chain::merge(work, size, a, b);
     } else {
         slow_chain::merge(work, size, b, a);
@@ -50,12 +50,12 @@ fn equate(work: &mut [u16], round: Round, r: RecordNo, i: usize) -> bool
     meet_new(work, round.size, s, t)
 }
 
-// The application at place i meets the one that the link p leads to.
+// The application at place i meets the one at place p.
 fn unify(work: &mut [u16], round: Round, p: usize, i: usize) -> bool
-    requires { Unifying round.size round.len round.done work.old p i }
+    requires { Unifying round.size round.len round.done work.old (suc p) i }
     ensures { Stepped round.size round.len round.done work.old i work.new result }
 {
-    let q = number(p - 1);
+    let q = number(p);
     let r = number(i);
     let s = table::result(work, q);
     let t = table::result(work, r);
@@ -68,11 +68,13 @@ fn apply(work: &mut [u16], round: Round, i: usize) -> bool
     ensures { Stepped round.size round.len round.done work.old i work.new result }
 {
     let f = slow_chain::find(work, round.size, round.len, i);
-    if f.link == 0 {
-        slow_chain::insert(work, f.bucket, i);
-        return false;
+    match f.place {
+        Some(p) => unify(work, round, p, i),
+        None => {
+            slow_chain::insert(work, f.bucket, i);
+            false
+        }
     }
-    unify(work, round, f.link, i)
 }
 
 // The record at place i is met.
@@ -94,14 +96,11 @@ fn pass(work: &mut [u16], round: Round) -> bool
     ensures { PassDone round.size round.len round.done work.old work.new result }
 {
     slow_chain::clear(work);
-    let n = round.len;
     let mut joined = false;
-    let mut i: usize = 0;
-    while i < n {
+    for i in 0..round.len {
         if step(work, round, i) {
             joined = true;
         }
-        i += 1;
     }
     joined
 }
@@ -123,13 +122,10 @@ pub fn advance(work: &mut [u16], size: usize, len: usize, most: usize) -> usize
     ensures { Advanced size len most work.old work.new result }
 {
     table_labels::fresh(work);
-    let mut done: usize = 0;
-    while done < most {
-        if turn(work, Round { size, len, done }) {
-            done += 1;
-        } else {
+    for done in 0..most {
+        if !turn(work, Round { size, len, done }) {
             return done;
         }
     }
-    done
+    most
 }

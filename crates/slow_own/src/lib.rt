@@ -3,14 +3,13 @@
 // part, and on slow_rest.
 #![tactic(auto)]
 
-ghost use Rattle.std.specs.Prelude.{◌≡◌, true, false};
-ghost use Rattle.records.specs.Table.{blank};
+ghost use Rattle.std.specs.Prelude.{true, false};
+ghost use Rattle.call_look.specs.Seen.{number_of, place_of, length_of};
 ghost use Rattle.slow_own.specs.Plain.{CountedOver, CountedAlone};
 
-use haltzurme_own::receive_over;
-use meaning::NO_TAG;
+pub use call_look::{Reason, Refusal};
+use haltzurme_own::{BLANK, receive_over};
 use records::Record;
-pub use slow_rest::Count;
 use slow_rest::count_rest;
 
 // Closes all records by passes, or makes as many as are to be watched. Each place of the record table holds the same record.
@@ -21,36 +20,33 @@ pub fn passes_over(
     limit: usize,
     watch: bool,
     each: Record,
-) -> Count
-    ensures { CountedOver each job.now room.old work.old limit watch result.number result.place result.passes room.new work.new }
+) -> Result<usize, Refusal>
+    ensures { CountedOver each job.now room.old work.old limit watch (number_of result) (place_of result) (length_of result) room.new work.new }
 {
-    let s = receive_over(job, work, each);
-    count_rest(job, room, work, s, limit, watch)
-}
-
-// A place of a blank table.
-fn none() -> Record
-    ensures { result ≡ blank }
-{
-    Record {
-        kind: 0,
-        a: NO_TAG,
-        b: NO_TAG,
-        c: NO_TAG,
-        sheet: 0,
-    }
+    let looked = receive_over(job, work, each);
+    count_rest(job, room, work, looked, limit, watch)
 }
 
 // Closes all records of a job by passes: the count, and the leader of every tag at the front of the room; or 19 where more than `limit` passes change something.
-pub fn count_passes(job: &[u8], room: &mut [u8], work: &mut [u16], limit: usize) -> Count
-    ensures { CountedAlone job.now room.old work.old limit false result.number result.place result.passes room.new work.new }
+pub fn count_passes(
+    job: &[u8],
+    room: &mut [u8],
+    work: &mut [u16],
+    limit: usize,
+) -> Result<usize, Refusal>
+    ensures { CountedAlone job.now room.old work.old limit false (number_of result) (place_of result) (length_of result) room.new work.new }
 {
-    passes_over(job, room, work, limit, false, none())
+    passes_over(job, room, work, limit, false, BLANK)
 }
 
 // Shows the classes after `most` passes, or after all that change something: how many were made, and the leader of every tag by them at the front of the room.
-pub fn watch_passes(job: &[u8], room: &mut [u8], work: &mut [u16], most: usize) -> Count
-    ensures { CountedAlone job.now room.old work.old most true result.number result.place result.passes room.new work.new }
+pub fn watch_passes(
+    job: &[u8],
+    room: &mut [u8],
+    work: &mut [u16],
+    most: usize,
+) -> Result<usize, Refusal>
+    ensures { CountedAlone job.now room.old work.old most true (number_of result) (place_of result) (length_of result) room.new work.new }
 {
-    passes_over(job, room, work, most, true, none())
+    passes_over(job, room, work, most, true, BLANK)
 }

@@ -2,64 +2,47 @@
 // call_look and slow_answer.
 #![tactic(auto)]
 
-ghost use Rattle.std.specs.Prelude.{◌≡◌};
 ghost use Rattle.call_look.specs.Begun.{Begun};
+ghost use Rattle.call_look.specs.Seen.{seen, number_of, place_of, length_of};
 ghost use Rattle.slow_rest.specs.Rest.{Fitted, Rested};
 
-use call_look::{Sight, give_back};
+use call_look::{Reason, Refusal, Sight, give_back};
 use job_field::units;
-pub use slow_answer::Count;
 use slow_answer::answer_passes;
 
 // What was seen, with number 9 where the room is below 2N bytes. A refusal has no tags, so 9 comes behind all others but 19.
-fn fit(s: Sight, room: usize) -> Sight
-    ensures { Fitted s room result }
+fn fit(looked: Result<Sight, Refusal>, room: usize) -> Result<Sight, Refusal>
+    ensures { Fitted (seen looked) room (seen result) }
 {
-    if room / 2 < s.size {
-        return Sight {
-            lent: true,
-            ready: false,
-            number: 9,
-            place: 0,
-            size: 0,
-            records: 0,
-            needed: 0,
-        };
+    let sight = looked?;
+    if room / 2 < sight.size {
+        return Err(Refusal::of(Reason::RoomTooShort));
     }
-    s
+    Ok(sight)
 }
 
-// A number of two bytes, as a place.
-fn wide(x: u16) -> usize
-    ensures { result ≡ x }
-{
-    x as usize
-}
-
-// The rest of the call, with no record table in sight.
+// The rest of the call, with no record table in sight: how many passes changed something.
 pub fn count_rest(
     job: &[u8],
     room: &mut [u8],
     work: &mut [u16],
-    s: Sight,
+    looked: Result<Sight, Refusal>,
     limit: usize,
     watch: bool,
-) -> Count
-    requires { Begun job.now work.old s }
-    ensures { Rested job.now room.old work.old s limit watch result.number result.place result.passes room.new work.new }
+) -> Result<usize, Refusal>
+    requires { Begun job.now work.old (seen looked) }
+    ensures { Rested job.now room.old work.old (seen looked) limit watch (number_of result) (place_of result) (length_of result) room.new work.new }
 {
-    let f = fit(s, room.len());
-    if f.ready {
-        let unit = wide(units(job));
-        let r = answer_passes(room, work, s.size, unit, s.records, limit, watch);
-        give_back(work, true);
-        r
-    } else {
-        give_back(work, f.lent);
-        Count {
-            number: f.number,
-            place: f.place,
-            passes: 0,
+    match fit(looked, room.len()) {
+        Ok(sight) => {
+            let unit = usize::from(units(job));
+            let passes = answer_passes(room, work, sight.size, unit, sight.records, limit, watch);
+            give_back(work, true);
+            passes
+        }
+        Err(refusal) => {
+            give_back(work, refusal.is_lent());
+            Err(refusal)
         }
     }
 }

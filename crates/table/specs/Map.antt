@@ -1,5 +1,5 @@
 -- The work table as the layers above see it: each named region is a function from its own numbers, and the records, the
--- list and the joins that the table holds are read off these functions. The map itself is drawn in src/lib.rt.
+-- list and the joins that the table holds are read off these functions. The map itself is drawn in src/map.rt.
 -- Assumes nothing.
 use Rattle.std.specs.Prelude.{ℕ, zero, suc, ◌+◌, ◌-◌, ◌≤◌, ◌<◌, ◌≡◌, ◌⊎◌, Bool, cond, List, [], ◌∷◌, ◌++◌, eqb, leb, ltb, length, get_or}
 use Rattle.meaning.specs.Following.{Rec, eq, app}

@@ -1,4 +1,4 @@
--- The map of the work table in names: its regions, and the parts of it that change together. src/lib.rt draws it, and has the same names for the
+-- The map of the work table in names: its regions, and the parts of it that change together. src/map.rt draws it, and has the same names for the
 -- code. Where a region stands is written here and there, and nowhere else.
 -- Assumes nothing.
 use Rattle.std.specs.Prelude.{ℕ, ◌+◌, ◌-◌, ◌*◌, ◌≤◌, Bool, cond, List, length}

@@ -1,6 +1,6 @@
 -- A hash table of the list's places by a key, with a chain in each of B buckets that goes to lower places only.
 -- A link is 0, or one more than a place. Assumes nothing.
-use Rattle.std.specs.Prelude.{ℕ, zero, suc, ◌%◌, Bool, cond, eqb}
+use Rattle.std.specs.Prelude.{ℕ, zero, suc, ◌%◌, Bool, Option, Some, None, cond, eqb}
 
 -- The first link of the chain from p whose place is a hit, or 0.
 abbrev pub seek_in : (ℕ → ℕ) → (ℕ → Bool) → ℕ → ℕ → ℕ
@@ -17,3 +17,8 @@ hits key x r = eqb (key r) x
 -- What the table has for the key x.
 unfoldable pub look : ℕ → (ℕ → ℕ) → (ℕ → ℕ) → (ℕ → ℕ) → ℕ → ℕ
 look B key hd nx x = seek_to nx (hits key x) (hd (x % B))
+
+-- A place that was found, or none, as a link.
+abbrev pub as_link : Option ℕ → ℕ
+as_link (Some j) = suc j
+as_link None = 0

@@ -1,6 +1,6 @@
 -- What stands in parts of the table: the labels, as they are read and as they were written.
 -- Assumes nothing.
-use Rattle.std.specs.Prelude.{ℕ, ◌+◌, ◌*◌, ◌≤◌, ◌<◌, ◌≡◌, List, length, get_or}
+use Rattle.std.specs.Prelude.{ℕ, suc, ◌+◌, ◌*◌, ◌≤◌, ◌<◌, ◌≡◌, List, length, get_or}
 use Rattle.meaning.specs.Labels.{into}
 use Rattle.meaning.specs.Limits.{most_records, most_tags}
 use Rattle.table.specs.Map.{left_of, right_of, label_of, Within}
@@ -19,6 +19,14 @@ pub record Readable (w : List ℕ) (k : ℕ) : Type 0 where
   pub most : k ≤ most_records
   pub left : left_of w k < most_tags
   pub right : right_of w k < most_tags
+
+-- The key of the record at a place; and a chain that can be followed from a link: it leads down, and the records of its places can be read.
+abbrev pub place_key : List ℕ → ℕ → ℕ
+place_key w j = key_in w (suc j)
+
+pub record Followed (w : List ℕ) (leads : ℕ → ℕ) (from : ℕ) : Type 0 where
+  pub falls : (r : ℕ) → leads r ≤ r
+  pub readable : (j : ℕ) → j < from → Readable w (suc j)
 
 -- Parts that were written: the label hi became lo; each tag is its own label.
 pub record Relabelled (w w' : List ℕ) (lo hi : ℕ) : Type 0 where

@@ -1,37 +1,25 @@
-// Labels: the loops that write them in the lent work table, and the key by which an application is found. Document 01, "Tags, records, following".
+// Labels: the loops that write them in the lent work table, the key by which an application is found, and the search of a chain for a key. Document 01, "Tags, records, following".
 // Rests on meaning (labels) and table (where things stand).
 #![tactic(auto)]
 
-ghost use Rattle.std.specs.Prelude.{◌≡◌, map, ◌≤◌, ◌<◌, eqb, length};
+ghost use Rattle.std.specs.Prelude.{◌≡◌, ℕ, suc, map, ◌≤◌, ◌<◌, List, eqb, length};
 ghost use Rattle.meaning.specs.Labels.{into};
-ghost use Rattle.meaning.specs.Limits.{most_tags};
+ghost use Rattle.meaning.specs.Limits.{most_records, most_tags};
 ghost use Rattle.table.specs.Map.{label_of};
 ghost use Rattle.table.specs.Places.{Large};
-ghost use Rattle.table_labels.specs.Parts.{Fills, CountsUp, Fresh, key_in, Readable};
+ghost use Rattle.table_labels.specs.Chain.{as_link, hits, seek_to};
+ghost use Rattle.table_labels.specs.Parts.{CountsUp, Followed, Fresh, Readable, key_in, place_key};
 
 use meaning::{RecordNo, Tag};
 use table::{LABEL, NEXT};
-
-// Every number becomes v.
-pub fn fill(part: &mut [u16], v: u16)
-    ensures { Fills part.new v }
-{
-    let mut i = 0;
-    while i < part.len() {
-        part[i] = v;
-        i += 1;
-    }
-}
 
 // The numbers become 0, 1, 2, ..
 pub fn count_up(part: &mut [u16])
     requires { length part.old ≤ 65535 }
     ensures { CountsUp part.new }
 {
-    let mut i = 0;
-    while i < part.len() {
-        part[i] = i as u16;
-        i += 1;
+    for (i, x) in part.iter_mut().enumerate() {
+        *x = i as u16;
     }
 }
 
@@ -39,12 +27,8 @@ pub fn count_up(part: &mut [u16])
 fn relabel(part: &mut [u16], hi: u16, lo: u16)
     ensures { part.new ≡ map (into lo hi) part.old }
 {
-    let mut i = 0;
-    while i < part.len() {
-        let v = part[i];
-        let w = if v == hi { lo } else { v };
-        part[i] = w;
-        i += 1;
+    for x in part.iter_mut() {
+        *x = if *x == hi { lo } else { *x };
     }
 }
 
@@ -80,7 +64,38 @@ pub fn level(work: &[u16], s: Tag, t: Tag) -> bool
     requires { Large work.now × (s.0 < most_tags) × (t.0 < most_tags) }
     ensures { result ≡ eqb (label_of work.now s.0) (label_of work.now t.0) }
 {
-    let a = table::label(work, s);
-    let b = table::label(work, t);
-    a.is(b)
+    table::label(work, s) == table::label(work, t)
+}
+
+// The number of the record at a place.
+pub fn number(j: usize) -> RecordNo
+    requires { j < most_records }
+    ensures { result.0 ≡ suc j }
+{
+    RecordNo::of((j + 1) as u16)
+}
+
+// How chains of places lead on: the closure of all records keeps some in the table, and a pass of the slow engine others.
+pub trait Chains {
+    ghost leads: { List ℕ → ℕ → ℕ };
+
+    // One more than the next place, or 0.
+    fn next(work: &[u16], j: usize) -> usize
+        requires { Large work.now × (j < most_records) }
+        ensures { result ≡ leads work.now j };
+}
+
+// The first place from a link on whose record has the key x.
+pub fn seek<C: Chains>(work: &[u16], from: usize, x: usize) -> Option<usize>
+    requires { Followed work.now (C.leads work.now) from }
+    ensures { as_link result ≡ seek_to (C.leads work.now) (hits (place_key work.now) x) from }
+{
+    let mut p = from;
+    while p != 0 {
+        if key(work, number(p - 1)) == x {
+            return Some(p - 1);
+        }
+        p = C::next(work, p - 1);
+    }
+    None
 }

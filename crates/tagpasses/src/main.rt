@@ -1,13 +1,11 @@
 // tagpasses: reads a job from standard input, closes all its records by passes, and writes the line `P count` with the leader of every tag behind it, or the line of a
 // refusal. Document 02, No. 12. Its one argument is the limit, or the word --watch: then each pass that changes something has a line of its own before that, with the
-// classes that it changed. It only reads, calls and writes: the calls are slow_own's. Rests on that, on text, text_line and console.
+// classes that it changed. It only reads, calls and writes: the calls are slow_own's. Rests on that, on text_line, on serving and on console.
 #![tactic(auto)]
 
-use console::{
-    Got, is_given, read_argument, read_input, write_error, write_failure, write_output_front,
-};
-use slow_own::{count_passes, watch_passes};
-use text::{Told, tell_refusal};
+use console::{is_given, read_argument, write_failure};
+use serving::{JOB, Program, Refused, WORK};
+use slow_own::{Refusal, count_passes, watch_passes};
 use text_line::{put, put_number, put_parted};
 
 // 2,000 bytes of room are enough for every job; 4,100 bytes hold the longest line, with a number before it, a thousand tags of three digits and a sign with each.
@@ -18,330 +16,205 @@ const LINE: usize = 4100;
 // No job has so many passes.
 const NEVER: usize = 1000;
 
+// Above this a limit is this.
+const HIGHEST: usize = 999999;
+
 // A number of two bytes.
-fn two(high: u8, low: u8) -> usize {
-    (high as usize) * 256 + (low as usize)
-}
-
-// Number i of a room.
-fn number_at(room: &[u8], i: usize) -> usize {
-    if i < room.len() / 2 {
-        let high = room[2 * i];
-        let low = room[2 * i + 1];
-        return two(high, low);
-    }
-    0
-}
-
-// The leaders of all tags, each behind a space.
-fn put_leaders(out: &mut [u8], from: usize, room: &[u8], tags: usize) -> usize {
-    let mut at = from;
-    let mut i: usize = 0;
-    while i < tags {
-        at = put_parted(out, at, number_at(room, i));
-        i += 1;
-    }
-    at
-}
-
-// A whole line goes to standard output.
-fn write(rt: &HostRuntime, text: &[u8], n: usize) {
-    if !write_output_front(rt, text, n) {
-        write_error(rt, b"tagpasses: standard output cannot be written\n");
+fn number(pair: &[u8]) -> usize {
+    match pair {
+        [high, low] => usize::from(u16::from_be_bytes([*high, *low])),
+        _ => 0,
     }
 }
 
 // N stands in bytes 3 and 4 of a job that was accepted.
 fn tags_of(job: &[u8]) -> usize {
-    if job.len() < 5 {
-        return 0;
-    }
-    two(job[3], job[4])
+    job.get(3..5).map_or(0, number)
 }
 
-// The count, and the leaders.
-fn tell(rt: &HostRuntime, room: &[u8], tags: usize, passes: usize) {
-    let mut space = [0u8; LINE];
-    let text: &mut [u8] = &mut space;
-    let first = put(text, 0, b'P');
-    let second = put_parted(text, first, passes);
-    let third = put_leaders(text, second, room, tags);
-    let end = put(text, third, b'\n');
-    write(rt, text, end);
-}
-
-// The line of a refusal; 60 bytes hold the longest.
-fn refuse(rt: &HostRuntime, number: u8, place: usize) {
-    let mut space = [0u8; 60];
-    let text: &mut [u8] = &mut space;
-    let told = tell_refusal(number, place, text);
-    match told {
-        Told::Whole(n) => {
-            write(rt, text, n);
-        }
-        Told::Full => {
-            write_error(rt, b"tagpasses: the line does not fit\n");
-        }
-    }
-}
-
-// Lends the call its room and the work table.
-fn count(rt: &HostRuntime, job: &[u8], limit: usize) {
-    let mut room_space = [0u8; ROOM];
-    let room: &mut [u8] = &mut room_space;
-    let mut work_space = [0u16; 32768];
-    let work: &mut [u16] = &mut work_space;
-    let c = count_passes(job, room, work, limit);
-    if c.number != 0 {
-        refuse(rt, c.number, c.place);
-    } else {
-        tell(rt, room, tags_of(job), c.passes);
-    }
-}
-
-// Where a tag has another leader than before, its leader's class has changed: two classes that become one have the leader of one of them.
-fn mark(marks: &mut [u8], before: &[u8], now: &[u8], i: usize) {
-    let l = number_at(now, i);
-    if number_at(before, i) == l {
-        return;
-    }
-    if l < marks.len() {
-        marks[l] = 1;
-    }
-}
-
-// The leaders of the classes that have changed are marked.
-fn mark_all(marks: &mut [u8], before: &[u8], now: &[u8], tags: usize) {
-    let mut i: usize = 0;
-    while i < tags {
-        mark(marks, before, now, i);
-        i += 1;
-    }
-}
-
-// Tag i behind the sign of equality, where it is another tag of the leader's class.
-fn put_member(out: &mut [u8], at: usize, now: &[u8], leader: usize, i: usize) -> usize {
-    if i == leader {
-        return at;
-    }
-    if number_at(now, i) != leader {
-        return at;
-    }
-    let next = put(out, at, b'=');
-    put_number(out, next, i)
-}
-
-// A class: its leader, and its other tags in order.
-fn put_class(out: &mut [u8], from: usize, now: &[u8], tags: usize, leader: usize) -> usize {
-    let mut at = put_parted(out, from, leader);
-    let mut i: usize = 0;
-    while i < tags {
-        at = put_member(out, at, now, leader, i);
-        i += 1;
+// The leaders of all tags, each behind a space.
+fn put_leaders(out: &mut [u8], from: usize, leaders: &[u8], tags: usize) -> usize {
+    let mut at = from;
+    for leader in leaders.chunks_exact(2).take(tags) {
+        at = put_parted(out, at, number(leader));
     }
     at
 }
 
-// The class of a leader, where it is marked.
-fn put_marked(
-    out: &mut [u8],
-    at: usize,
-    marks: &[u8],
-    now: &[u8],
-    tags: usize,
-    leader: usize,
-) -> usize {
-    if leader < marks.len() {
-        if marks[leader] == 1 {
-            return put_class(out, at, now, tags, leader);
+// A whole line goes to standard output.
+fn write(program: Program<'_>, line: &[u8], end: usize) {
+    match line.get(..end) {
+        Some(whole) => program.write(whole),
+        None => program.complain("standard output cannot be written"),
+    }
+}
+
+// The count, and the leaders.
+fn tell(program: Program<'_>, leaders: &[u8], tags: usize, passes: usize) {
+    let mut line = [0u8; LINE];
+    let first = put(&mut line, 0, b'P');
+    let second = put_parted(&mut line, first, passes);
+    let third = put_leaders(&mut line, second, leaders, tags);
+    let end = put(&mut line, third, b'\n');
+    write(program, &line, end);
+}
+
+// The line of a refusal.
+fn refuse(program: Program<'_>, refusal: Refusal) {
+    program.with_line(Refused::from(refusal), |line| program.write(line));
+}
+
+// Lends the call its room and the work table.
+fn count(program: Program<'_>, job: &[u8], limit: usize) {
+    let mut room = [0u8; ROOM];
+    let mut work = [0u16; WORK];
+    match count_passes(job, &mut room, &mut work, limit) {
+        Ok(passes) => tell(program, &room, tags_of(job), passes),
+        Err(refusal) => refuse(program, refusal),
+    }
+}
+
+// The leaders of the classes that have changed are marked. Where a tag has another leader than before, its leader's class has changed: two classes that become one
+// have the leader of one of them.
+fn mark_all(marks: &mut [bool], before: &[u8], now: &[u8], tags: usize) {
+    let pairs = before.chunks_exact(2).zip(now.chunks_exact(2));
+    for (old, new) in pairs.take(tags) {
+        if old != new {
+            if let Some(mark) = marks.get_mut(number(new)) {
+                *mark = true;
+            }
+        }
+    }
+}
+
+// A class: its leader, and its other tags in order, each behind the sign of equality.
+fn put_class(out: &mut [u8], from: usize, now: &[u8], tags: usize, leader: usize) -> usize {
+    let mut at = put_parted(out, from, leader);
+    for (tag, its) in now.chunks_exact(2).take(tags).enumerate() {
+        if tag != leader && number(its) == leader {
+            let next = put(out, at, b'=');
+            at = put_number(out, next, tag);
         }
     }
     at
 }
 
 // The classes that are marked, by their leaders.
-fn put_classes(out: &mut [u8], from: usize, marks: &[u8], now: &[u8], tags: usize) -> usize {
+fn put_classes(out: &mut [u8], from: usize, marks: &[bool], now: &[u8], tags: usize) -> usize {
     let mut at = from;
-    let mut i: usize = 0;
-    while i < tags {
-        at = put_marked(out, at, marks, now, tags, i);
-        i += 1;
+    for (leader, marked) in marks.iter().take(tags).enumerate() {
+        if *marked {
+            at = put_class(out, at, now, tags, leader);
+        }
     }
     at
 }
 
 // The line of pass n: the classes that it changed.
-fn show(rt: &HostRuntime, n: usize, before: &[u8], now: &[u8], tags: usize) {
-    let mut mark_space = [0u8; NEVER];
-    let marks: &mut [u8] = &mut mark_space;
-    mark_all(marks, before, now, tags);
-    let mut space = [0u8; LINE];
-    let text: &mut [u8] = &mut space;
-    let first = put_number(text, 0, n);
-    let second = put(text, first, b':');
-    let third = put_classes(text, second, marks, now, tags);
-    let end = put(text, third, b'\n');
-    write(rt, text, end);
+fn show(program: Program<'_>, n: usize, before: &[u8], now: &[u8], tags: usize) {
+    let mut marks = [false; NEVER];
+    mark_all(&mut marks, before, now, tags);
+    let mut line = [0u8; LINE];
+    let first = put_number(&mut line, 0, n);
+    let second = put(&mut line, first, b':');
+    let third = put_classes(&mut line, second, &marks, now, tags);
+    let end = put(&mut line, third, b'\n');
+    write(program, &line, end);
 }
 
-// Byte i of what is now comes to be that of what was before.
-fn copy(before: &mut [u8], now: &[u8], i: usize) {
-    if i >= now.len() {
-        return;
-    }
-    if i < before.len() {
-        before[i] = now[i];
-    }
-}
-
-fn copy_all(before: &mut [u8], now: &[u8]) {
-    let mut i: usize = 0;
-    while i < ROOM {
-        copy(before, now, i);
-        i += 1;
-    }
-}
-
-// One pass more, and its line. Whether it changed something.
-fn next(
-    rt: &HostRuntime,
-    job: &[u8],
-    before: &mut [u8],
-    now: &mut [u8],
-    work: &mut [u16],
-    n: usize,
-) -> bool {
-    let c = watch_passes(job, now, work, n);
-    if c.passes != n {
-        return false;
-    }
-    show(rt, n, before, now, tags_of(job));
-    copy_all(before, now);
-    true
-}
-
-// Pass after pass until one changes nothing; then the count and the leaders.
-fn watch_all(rt: &HostRuntime, job: &[u8], before: &mut [u8], now: &mut [u8], work: &mut [u16]) {
-    let mut n: usize = 0;
-    while n < NEVER {
-        if !next(rt, job, before, now, work, n + 1) {
-            tell(rt, before, tags_of(job), n);
+// Pass after pass, each with its line, until one changes nothing; then the count and the leaders. After n passes those of the single classes, or of pass n, are in `before`.
+fn watch_all(program: Program<'_>, job: &[u8], before: &mut [u8; ROOM], work: &mut [u16]) {
+    let tags = tags_of(job);
+    let mut now = [0u8; ROOM];
+    for n in 0..NEVER {
+        let made = watch_passes(job, &mut now, work, n + 1);
+        if made.unwrap_or(0) != n + 1 {
+            tell(program, before, tags, n);
             return;
         }
-        n += 1;
+        show(program, n + 1, before, &now, tags);
+        *before = now;
     }
 }
 
 // Begins with the single classes, after no pass.
-fn watch(rt: &HostRuntime, job: &[u8]) {
-    let mut before_space = [0u8; ROOM];
-    let before: &mut [u8] = &mut before_space;
-    let mut now_space = [0u8; ROOM];
-    let now: &mut [u8] = &mut now_space;
-    let mut work_space = [0u16; 32768];
-    let work: &mut [u16] = &mut work_space;
-    let c = watch_passes(job, before, work, 0);
-    if c.number != 0 {
-        refuse(rt, c.number, c.place);
-    } else {
-        watch_all(rt, job, before, now, work);
+fn watch(program: Program<'_>, job: &[u8]) {
+    let mut before = [0u8; ROOM];
+    let mut work = [0u16; WORK];
+    match watch_passes(job, &mut before, &mut work, 0) {
+        Ok(_) => watch_all(program, job, &mut before, &mut work),
+        Err(refusal) => refuse(program, refusal),
     }
 }
 
 // What is asked for: a limit, or to watch.
 #[derive(Clone, Copy)]
-struct Ask {
-    watch: bool,
-    limit: usize,
+enum Ask {
+    Limit(usize),
+    Watch,
 }
 
-// The bytes that were read are the job. More than were lent are never read: console's contract.
-fn serve(rt: &HostRuntime, job: &[u8], ask: Ask) {
-    if ask.watch {
-        watch(rt, job);
-    } else {
-        count(rt, job, ask.limit);
-    }
+// Why an argument asks for neither.
+#[derive(Clone, Copy)]
+enum Unasked {
+    Empty,
+    NoNumber,
 }
 
-fn front(rt: &HostRuntime, kept: &[u8], n: usize, ask: Ask) {
-    if n <= kept.len() {
-        serve(rt, &kept[..n], ask);
-    }
-}
+impl TryFrom<&[u8]> for Ask {
+    type Error = Unasked;
 
-// Keeps at most 54,511 bytes of standard input, one more than the longest job allowed.
-fn read_and_serve(rt: &HostRuntime, ask: Ask) {
-    let mut space = [0u8; 54511];
-    let kept: &mut [u8] = &mut space;
-    let got = read_input(rt, kept);
-    match got {
-        Got::Bytes(n) => {
-            front(rt, kept, n, ask);
-        }
-        Got::Broken => {
-            write_error(rt, b"tagpasses: standard input cannot be read\n");
+    fn try_from(word: &[u8]) -> Result<Ask, Unasked> {
+        match word {
+            [] => Err(Unasked::Empty),
+            b"--watch" => Ok(Ask::Watch),
+            _ => Ok(Ask::Limit(limit_of(word)?)),
         }
     }
 }
 
-// What a number becomes by one digit more. Above 999,999 it is that: no job has so many passes. Anything but a digit makes it no limit, which is a million.
-fn longer(n: usize, d: u8) -> usize {
-    if d < b'0' {
-        return 1000000;
+// A limit is decimal digits and nothing else. No job has so many passes as the highest limit, so every number above it is that.
+fn limit_of(word: &[u8]) -> Result<usize, Unasked> {
+    match str::from_utf8(word) {
+        Ok(digits) if digits.bytes().all(|b| b.is_ascii_digit()) => {
+            Ok(digits.parse::<usize>().unwrap_or(HIGHEST).min(HIGHEST))
+        }
+        _ => Err(Unasked::NoNumber),
     }
-    if d > b'9' {
-        return 1000000;
-    }
-    if n >= 1000000 {
-        return 1000000;
-    }
-    if n >= 100000 {
-        return 999999;
-    }
-    n * 10 + (d - b'0') as usize
 }
 
-// A decimal number.
-fn limit_of(word: &[u8]) -> usize {
-    let mut n: usize = 0;
-    let mut i: usize = 0;
-    while i < word.len() {
-        n = longer(n, word[i]);
-        i += 1;
+fn serve(program: Program<'_>, ask: Ask) {
+    let mut kept = [0u8; JOB];
+    let Some(job) = program.input(&mut kept) else {
+        return;
+    };
+    match ask {
+        Ask::Limit(limit) => count(program, job, limit),
+        Ask::Watch => watch(program, job),
     }
-    n
 }
 
 // Behind the program's own name stands one argument and no second.
 fn main(rt: HostRuntime) {
+    let program = Program {
+        runtime: &rt,
+        name: "tagpasses",
+    };
+    let mut word = [0u8; 4096];
     if !is_given(&rt, 1) || is_given(&rt, 2) {
-        write_error(
-            &rt,
-            b"tagpasses: a number is wanted, the limit, or --watch\n",
-        );
+        program.complain("a number is wanted, the limit, or --watch");
         return;
     }
-    let mut word = [0u8; 4096];
     let length = match read_argument(&rt, 1, &mut word) {
         Ok(n) => n,
-        Err(e) => {
-            write_failure(&rt, b"tagpasses: the limit", &e);
+        Err(error) => {
+            write_failure(&rt, b"tagpasses: the limit", &error);
             return;
         }
     };
-    let limit = limit_of(&word[..length]);
-    let watch = &word[..length] == b"--watch".as_slice();
-    if length == 0 {
-        write_error(
-            &rt,
-            b"tagpasses: a number is wanted, the limit, or --watch\n",
-        );
-    } else if watch {
-        read_and_serve(&rt, Ask { watch, limit });
-    } else if limit > 999999 {
-        write_error(&rt, b"tagpasses: the limit is no number\n");
-    } else {
-        read_and_serve(&rt, Ask { watch, limit });
+    match Ask::try_from(&word[..length]) {
+        Ok(ask) => serve(program, ask),
+        Err(Unasked::Empty) => program.complain("a number is wanted, the limit, or --watch"),
+        Err(Unasked::NoNumber) => program.complain("the limit is no number"),
     }
 }

@@ -2,7 +2,7 @@
 // a text fills or overfills by one byte. Rests on text; no contract says what is written, the stored output does.
 #![tactic(auto)]
 
-use text::{Told, tell_answer};
+use text::tell_answer;
 
 // Writes the bytes; where that fails they are left out.
 fn say(rt: &HostRuntime, bytes: &[u8]) {
@@ -10,32 +10,24 @@ fn say(rt: &HostRuntime, bytes: &[u8]) {
 }
 
 // The text at the front of a room, or that it did not fit.
-fn show(rt: &HostRuntime, room: &[u8], told: Told) {
-    match told {
-        Told::Whole(n) => {
-            if n <= room.len() {
-                say(rt, &room[..n]);
-            }
-        }
-        Told::Full => {
-            say(rt, b"full\n");
-        }
+fn show(rt: &HostRuntime, room: &[u8], told: Option<usize>) {
+    match told.and_then(|n| room.get(..n)) {
+        Some(text) => say(rt, text),
+        None => say(rt, b"full\n"),
     }
 }
 
 fn report(rt: &HostRuntime, name: &[u8], job: &[u8], report: &[u8]) {
     say(rt, name);
-    let mut space = [7u8; 200];
-    let room: &mut [u8] = &mut space;
-    let told = tell_answer(job, report, 0, 0, report.len(), room);
-    show(rt, room, told);
+    let mut room = [7u8; 200];
+    let told = tell_answer(job, report, 0, 0, report.len(), &mut room);
+    show(rt, &room, told);
 }
 
 fn refusal(rt: &HostRuntime, number: u8, place: usize) {
-    let mut space = [7u8; 40];
-    let room: &mut [u8] = &mut space;
-    let told = tell_answer(b"", b"", number, place, 0, room);
-    show(rt, room, told);
+    let mut room = [7u8; 40];
+    let told = tell_answer(b"", b"", number, place, 0, &mut room);
+    show(rt, &room, told);
 }
 
 // N = 8: records f(5,6)=1; f(5,7)=2; 1=3; then explain 2 3; records 6=7; 0=2; then ask 0 3; explain 0 3; ask 0 4; explain 2 1;
@@ -137,8 +129,8 @@ fn refusals(rt: &HostRuntime) {
 
 // A refusal in the first n bytes of a room, and then all the room's bytes.
 fn within(rt: &HostRuntime, room: &mut [u8], n: usize, number: u8, place: usize) {
-    if n <= room.len() {
-        let told = tell_answer(b"", b"", number, place, 0, &mut room[..n]);
+    if let Some(front) = room.get_mut(..n) {
+        let told = tell_answer(b"", b"", number, place, 0, front);
         show(rt, room, told);
         say(rt, room);
     }
@@ -147,11 +139,10 @@ fn within(rt: &HostRuntime, room: &mut [u8], n: usize, number: u8, place: usize)
 // The six bytes of a text in seven, six and five bytes of room.
 fn rooms(rt: &HostRuntime) {
     say(rt, b"rooms\n");
-    let mut space = *b"-------\n";
-    let room: &mut [u8] = &mut space;
-    within(rt, room, 7, 9, 0);
-    within(rt, room, 6, 8, 1);
-    within(rt, room, 5, 7, 2);
+    let mut room = *b"-------\n";
+    within(rt, &mut room, 7, 9, 0);
+    within(rt, &mut room, 6, 8, 1);
+    within(rt, &mut room, 5, 7, 2);
 }
 
 fn main(rt: HostRuntime) {

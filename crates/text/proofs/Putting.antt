@@ -9,7 +9,7 @@ use lib.Seq.{sets, sets-eq, length-take-le, drop-length}
 use Rattle.text_line.specs.Put.{Put}
 use Rattle.text_line.proofs.Puts.{sets-append, sets-past, put-length}
 use Rattle.text.specs.Told.{Tells, whole, full, Ended, within, past}
-use Rattle.text.specs.declared.Told.{Told}
+use Rattle.std.specs.Prelude.{Option}
 
 -- A text that fits stands at the room's front; one that is longer fills the room.
 sets-front : (room text : List ℕ) → length text ≤ length room → sets room 0 text ≡ text ++ drop (length text) room
@@ -24,7 +24,7 @@ sets_over room text h =
     let fill : sets room 0 front ≡ front = sets-front room front (omega arith) ∙ rw (size, drop-length room, append-nil) in
     ap (sets room 0) (sym (take-append-drop (length room) text)) ∙ sets-append room 0 front (drop (length room) text) ∙ rw fill (sets-past front (0 + length front) (drop (length room) text) (omega arith))
 
-pub put-told : {text room room' : List ℕ} {next : ℕ} {told : Told} → Put text room 0 room' next → Ended next (length room') told → Tells text room room' told
+pub put-told : {text room room' : List ℕ} {next : ℕ} {told : Option ℕ} → Put text room 0 room' next → Ended next (length room') told → Tells text room room' told
 put-told {text} {room} {room'} {next} p (within h) =
     let n : next ≡ length text = omega (arith, p.place, put-length p) in
     whole n (p.bytes ∙ sets-front room text (omega (arith, put-length p)) ∙ rw n)
@@ -32,5 +32,5 @@ put-told {text} {room} {room'} {next} p (past h) =
     let long : length room < length text = omega (arith, p.place, put-length p) in
     full long (p.bytes ∙ sets_over room text (omega arith))
 
-pub tells_as : {s t room room' : List ℕ} {told : Told} → s ≡ t → Tells s room room' told → Tells t room room' told
+pub tells_as : {s t room room' : List ℕ} {told : Option ℕ} → s ≡ t → Tells s room room' told → Tells t room room' told
 tells_as {s} {t} {room} {room'} {told} e p = subst (λ (x : List ℕ). Tells x room room' told) e p

@@ -9,14 +9,13 @@ use lib.ListN.{length, take, length-take}
 use Rattle.job_field.specs.Reading.{reading}
 use Rattle.text.specs.Lines.{text_of, lines_of, refusal_line}
 use Rattle.text.specs.Told.{Tells, whole, full}
-use Rattle.text.specs.declared.Told.{Told}
-use Rattle.text.specs.declared.Told.TheVariants.{Whole}
+use Rattle.std.specs.Prelude.{Option, Some}
 use Rattle.text.proofs.Putting.{tells_as}
 use Rattle.text.proofs.Size.{Bytes, bytes_take, report-size, refusal-size}
 use Rattle.text.specs.Answered.{answer_text, Answered}
 
-tells-whole : {text out out' : List ℕ} {told : Told} → Tells text out out' told → length text ≤ length out → told ≡ Whole (length text)
-tells-whole (whole n e) h = ap Whole n
+tells-whole : {text out out' : List ℕ} {told : Option ℕ} → Tells text out out' told → length text ≤ length out → told ≡ Some (length text)
+tells-whole (whole n e) h = ap Some n
 tells-whole (full l e) h = absurd (omega arith)
 
 module _ (job room : List ℕ) (number place size : ℕ) where
@@ -28,7 +27,7 @@ module _ (job room : List ℕ) (number place size : ℕ) where
   unfolding answer_text
   text-refusal e = rw (ne_eqb number 0 e)
 
-  pub answered-report : {out out' : List ℕ} {told : Told} → number ≡ 0 → Bytes room → Tells (text_of (reading job) (take size room)) out out' told → Answered job room number place size out out' told
+  pub answered-report : {out out' : List ℕ} {told : Option ℕ} → number ≡ 0 → Bytes room → Tells (text_of (reading job) (take size room)) out out' told → Answered job room number place size out out' told
   answered-report e b t = record {
     tells = tells_as (text-report e) t;
     fits = λ fair h k.
@@ -39,7 +38,7 @@ module _ (job room : List ℕ) (number place size : ℕ) where
         tells-whole (tells_as (text-report e) t) (omega (arith, most, ap length is, ap length (text-report e)));
   }
 
-  pub answered-refusal : {out out' : List ℕ} {told : Told} → (number ≡ 0 → ⊥) → number < 256 → place < 18446744073709551616 → Tells (refusal_line number place) out out' told → Answered job room number place size out out' told
+  pub answered-refusal : {out out' : List ℕ} {told : Option ℕ} → (number ≡ 0 → ⊥) → number < 256 → place < 18446744073709551616 → Tells (refusal_line number place) out out' told → Answered job room number place size out out' told
   answered-refusal e n p t = record {
     tells = tells_as (text-refusal e) t;
     fits = λ fair h k. tells-whole (tells_as (text-refusal e) t) (omega (arith, refusal-size number place n p, ap length (text-refusal e)));

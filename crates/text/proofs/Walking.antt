@@ -11,7 +11,7 @@ use lib.Seq.{drop-drop}
 use Rattle.job_field.specs.Items.{Head, Item, Reading, accepted, head_of}
 use Rattle.job_field.specs.Reading.{behind_at, field_standing, reading, head_in, sheeted_in}
 use Rattle.job_field.specs.Standing.{Stands, ends, next}
-use Rattle.job_field.proofs.Standing.{stands-within, accepted-stands, edition-first}
+use Rattle.job_field.proofs.Standing.{accepted-stands, edition-first}
 use Rattle.text_field.proofs.Parts.{drop_min}
 use Rattle.text_field.specs.Fields.{line_of, width_of, totals_line, text_at, width_at}
 use Rattle.text.specs.Lines.{lines_of}
@@ -39,7 +39,3 @@ module _ (v : Bool) (job report text room : List ℕ) (at from : ℕ) where
       let q : drop (width_of v i rest) rest ≡ drop (from + min (width_of v i rest) (length rest)) report = sym (drop_min (width_of v i rest) rest) ∙ drop-drop (min (width_of v i rest) (length rest)) from report in
       rw e (underway s (half-as (ap (lines_of v is) q) (half-more {s = line_of v i rest} h (rw e at p))))
   walk-on room' room'' place place' (finished l q) k p = absurd (omega arith)
-
-  pub walk-done : (room' : List ℕ) (place : ℕ) → Walked v job report text room at from room' place → length job ≤ at → Put text room 0 room' place
-  walk-done room' place (underway {N = N} {items = items} s h) k = absurd (omega (arith, stands-within job N at items s))
-  walk-done room' place (finished l p) k = p

@@ -1,5 +1,6 @@
 // The lines that tagcheck writes: those of a report, or the line of a refusal. Document 01, "The program". A job and its report go in, and the text comes
-// out in a room of bytes; nothing here reads or writes a file. Rests on job_field, job_read, text_line and text_field.
+// out in a room of bytes; nothing here reads or writes a file. What a call answers is the text's length, where all of it stands at the front of the room, and none
+// where it is longer than the room. Rests on job_field, job_read, text_line and text_field.
 #![tactic(auto)]
 
 ghost use Rattle.job_field.specs.Reading.{reading, head_in, items_in};
@@ -9,17 +10,10 @@ ghost use Rattle.text.specs.Told.{Tells, Ended, Accepted};
 ghost use Rattle.std.specs.Prelude.{length};
 ghost use Rattle.text.specs.Answered.{Answered};
 
-use job_field::{behind, number_of, read, sheeted};
-use job_read::{Answer, read_job};
+use job_field::{behind, read, sheeted};
+use job_read::{Refusal, read_job};
 use text_field::{passed, put_field};
 use text_line::put_pair;
-
-// What became of a text: all of it stands at the front of the room, and so many bytes it has; or it is longer than the room.
-#[derive(Clone, Copy)]
-pub enum Told {
-    Whole(usize),
-    Full,
-}
 
 // The lines of an accepted job: field after field of the job, from behind the first one, with the report's fields beside them.
 fn put_items(job: &[u8], report: &[u8], out: &mut [u8]) -> usize
@@ -40,19 +34,15 @@ fn put_items(job: &[u8], report: &[u8], out: &mut [u8]) -> usize
     next
 }
 
-// Whether a text that ends before a place is whole in a room of so many bytes.
-fn ending(next: usize, room: usize) -> Told
+// The length of a text that ends before a place, where it is whole in a room of so many bytes.
+fn ending(next: usize, room: usize) -> Option<usize>
     ensures { Ended next room result }
 {
-    if next <= room {
-        Told::Whole(next)
-    } else {
-        Told::Full
-    }
+    if next <= room { Some(next) } else { None }
 }
 
 // The single line of a refusal, by its number and place.
-pub fn tell_refusal(number: u8, place: usize, out: &mut [u8]) -> Told
+pub fn tell_refusal(number: u8, place: usize, out: &mut [u8]) -> Option<usize>
     ensures { Tells (refusal_line number place) out.old out.new result }
 {
     let next = put_pair(out, 0, b'R', number as usize, place);
@@ -60,20 +50,12 @@ pub fn tell_refusal(number: u8, place: usize, out: &mut [u8]) -> Told
 }
 
 // The lines of a job and its report; the line of the refusal, where reading refuses the job.
-pub fn tell_report(job: &[u8], report: &[u8], out: &mut [u8]) -> Told
+pub fn tell_report(job: &[u8], report: &[u8], out: &mut [u8]) -> Option<usize>
     ensures { Tells (text_of (reading job.now) report.now) out.old out.new result }
 {
-    let answer = read_job(job);
-    match answer {
-        Answer::Refused { fault, place } => tell_refusal(number_of(fault), place, out),
-        Answer::Accepted {
-            size: _,
-            units: _,
-            sheeted: _,
-            records: _,
-            questions: _,
-            room: _,
-        } => {
+    match read_job(job) {
+        Err(Refusal { fault, place }) => tell_refusal(u8::from(fault), place, out),
+        Ok(_) => {
             let next = put_items(job, report, out);
             ending(next, out.len())
         }
@@ -88,7 +70,7 @@ pub fn tell_answer(
     place: usize,
     size: usize,
     out: &mut [u8],
-) -> Told
+) -> Option<usize>
     ensures { Answered job.now room.now number place size out.old out.new result }
 {
     if number == 0 {

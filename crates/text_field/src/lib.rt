@@ -11,15 +11,14 @@ ghost use Rattle.text_line.specs.Put.{Put};
 ghost use Rattle.text_field.specs.Fields.{numbers_in, part_of, body_of, explain_line, broken_line, why_line, question_line, totals_line, field_width, behind_field, sheets_due, sheets_line, line_of, text_at, width_at};
 ghost use Rattle.job_field.specs.Items.{posed};
 
-use job_field::{Field, Query};
+use job_field::{Fault, Field, Query};
 use meaning::Tag;
 use text_line::{open_line, put, put_ask, put_pair, put_parted};
 
-fn wide(x: u16) -> usize
-    ensures { result ≡ x }
-{
-    x as usize
-}
+// Where the body of the report's first field begins, and the numbers behind one number in it.
+const BODY: usize = 3;
+
+const LISTED: usize = 5;
 
 // A byte of the report; one that is not there counts as 0.
 fn byte(report: &[u8], at: usize) -> u8
@@ -33,8 +32,8 @@ fn number(report: &[u8], at: usize) -> u16
     requires { at ≤ length report.now + 5 }
     ensures { result ≡ number_at report.now at }
 {
-    let high = byte(report, at) as u16;
-    let low = byte(report, at + 1) as u16;
+    let high = u16::from(byte(report, at));
+    let low = u16::from(byte(report, at + 1));
     high * 256 + low
 }
 
@@ -42,19 +41,7 @@ fn number(report: &[u8], at: usize) -> u16
 fn width(report: &[u8]) -> usize
     ensures { result ≡ min (3 + number_at report.now 1) (length report.now) }
 {
-    let whole = 3 + wide(number(report, 1));
-    if whole < report.len() {
-        whole
-    } else {
-        report.len()
-    }
-}
-
-// Where a part of the first field begins, at a byte of it or where the report stops before that.
-fn part_start(at: usize, stop: usize) -> usize
-    ensures { result ≡ min at stop }
-{
-    if stop < at { stop } else { at }
+    report.len().min(3 + usize::from(number(report, 1)))
 }
 
 // The numbers of a part of the report, each with the space before it.
@@ -67,7 +54,7 @@ fn put_numbers(report: &[u8], from: usize, stop: usize, out: &mut [u8], at: usiz
     let mut p = from;
     let mut next = at;
     while stop - p >= 2 {
-        next = put_parted(out, next, wide(number(report, p)));
+        next = put_parted(out, next, usize::from(number(report, p)));
         p += 2;
     }
     next
@@ -78,7 +65,7 @@ fn put_reason(report: &[u8], s: usize, t: usize, out: &mut [u8], at: usize) -> u
     ensures { let ns = numbers_in (body_of report.now) in Put (line 69 (s ∷ t ∷ length ns ∷ ns)) out.old at out.new result }
 {
     let stop = width(report);
-    let from = part_start(3, stop);
+    let from = BODY.min(stop);
     let next = open_line(out, at, b'E', s, t);
     let third = put_parted(out, next, (stop - from) / 2);
     let last = put_numbers(report, from, stop, out, third);
@@ -101,8 +88,8 @@ fn put_breach(report: &[u8], out: &mut [u8], at: usize) -> usize
     ensures { let ns = numbers_in (part_of 5 report.now) in Put (line 67 (number_at report.now 3 ∷ length ns ∷ ns)) out.old at out.new result }
 {
     let stop = width(report);
-    let from = part_start(5, stop);
-    let number = wide(number(report, 3));
+    let from = LISTED.min(stop);
+    let number = usize::from(number(report, 3));
     let next = open_line(out, at, b'C', number, (stop - from) / 2);
     let last = put_numbers(report, from, stop, out, next);
     put(out, last, b'\n')
@@ -132,7 +119,7 @@ fn put_leaders(report: &[u8], s: usize, t: usize, out: &mut [u8], at: usize) -> 
     ensures { let ns = numbers_in (body_of report.now) in Put (line 87 (s ∷ t ∷ ns)) out.old at out.new result }
 {
     let stop = width(report);
-    let from = part_start(3, stop);
+    let from = BODY.min(stop);
     let next = open_line(out, at, b'W', s, t);
     let last = put_numbers(report, from, stop, out, next);
     put(out, last, b'\n')
@@ -157,8 +144,8 @@ fn put_totals(report: &[u8], out: &mut [u8], at: usize) -> usize
         out,
         at,
         b'T',
-        wide(number(report, 3)),
-        wide(number(report, 5)),
+        usize::from(number(report, 3)),
+        usize::from(number(report, 5)),
     )
 }
 
@@ -180,8 +167,8 @@ fn put_question(q: Query, report: &[u8], out: &mut [u8], at: usize) -> usize
             at,
             shown(s),
             shown(t),
-            wide(number(report, 3)),
-            wide(number(report, 5)),
+            usize::from(number(report, 3)),
+            usize::from(number(report, 5)),
         ),
         Query::Explain(s, t) => put_explain(report, shown(s), shown(t), out, at),
         Query::Broken => put_broken(report, out, at),
@@ -193,11 +180,7 @@ fn put_question(q: Query, report: &[u8], out: &mut [u8], at: usize) -> usize
 fn is_due(sheeted: bool, kind: u8) -> bool
     ensures { result ≡ (sheeted && (eqb kind 132 || eqb kind 134)) }
 {
-    if sheeted {
-        if kind == 0x84 { true } else { kind == 0x86 }
-    } else {
-        false
-    }
+    sheeted && (kind == 0x84 || kind == 0x86)
 }
 
 // The line of sheets: the numbers of the body of the report's first field, as far as they are there.
@@ -205,7 +188,7 @@ fn put_sheets(report: &[u8], out: &mut [u8], at: usize) -> usize
     ensures { Put (sheets_line report.now) out.old at out.new result }
 {
     let stop = width(report);
-    let from = part_start(3, stop);
+    let from = BODY.min(stop);
     let next = put(out, at, b'H');
     let second = put_parted(out, next, (stop - from) / 2);
     let last = put_numbers(report, from, stop, out, second);
@@ -249,28 +232,29 @@ fn fields_width(sheeted: bool, report: &[u8]) -> usize
 }
 
 // What a field of the job adds to the text, in the job's edition and with the report from the field's own answer on.
-pub fn put_field(sheeted: bool, field: Field, report: &[u8], out: &mut [u8], at: usize) -> usize
+pub fn put_field(
+    sheeted: bool,
+    field: Result<Field, Fault>,
+    report: &[u8],
+    out: &mut [u8],
+    at: usize,
+) -> usize
     requires { at ≤ length out.old + 1 }
     ensures { Put (text_at sheeted (said field) report.now) out.old at out.new result }
 {
     match field {
-        Field::Bad(_) => at,
-        Field::Header(_, _, _) => at,
-        Field::Noted(_) => at,
-        Field::Posed(q) => put_answer(sheeted, q, report, out, at),
-        Field::End => put_totals(report, out, at),
+        Ok(Field::Posed(q)) => put_answer(sheeted, q, report, out, at),
+        Ok(Field::End) => put_totals(report, out, at),
+        Ok(Field::Header(_) | Field::Noted(_)) | Err(_) => at,
     }
 }
 
 // How far a field of the job goes in the report: over the fields of a question, as far as they are there.
-pub fn passed(sheeted: bool, field: Field, report: &[u8]) -> usize
+pub fn passed(sheeted: bool, field: Result<Field, Fault>, report: &[u8]) -> usize
     ensures { result ≡ min (width_at sheeted (said field) report.now) (length report.now) }
 {
     match field {
-        Field::Bad(_) => 0,
-        Field::Header(_, _, _) => 0,
-        Field::Noted(_) => 0,
-        Field::Posed(_) => fields_width(sheeted, report),
-        Field::End => 0,
+        Ok(Field::Posed(_)) => fields_width(sheeted, report),
+        Ok(Field::Header(_) | Field::Noted(_) | Field::End) | Err(_) => 0,
     }
 }

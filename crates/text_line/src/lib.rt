@@ -47,21 +47,37 @@ pub fn put_parted(out: &mut [u8], at: usize, n: usize) -> usize
     put_number(out, next, n)
 }
 
+// A line's letter and numbers of it, from the first on.
+fn put_begun(out: &mut [u8], at: usize, letter: u8, numbers: &[usize]) -> usize
+    ensures { Put (letter ∷ parted numbers.now) out.old at out.new result }
+{
+    let mut next = put(out, at, letter);
+    for n in numbers {
+        next = put_parted(out, next, *n);
+    }
+    next
+}
+
+// A whole line.
+fn put_line(out: &mut [u8], at: usize, letter: u8, numbers: &[usize]) -> usize
+    ensures { Put (line letter numbers.now) out.old at out.new result }
+{
+    let next = put_begun(out, at, letter, numbers);
+    put(out, next, b'\n')
+}
+
 // A line's letter and its first two numbers.
 pub fn open_line(out: &mut [u8], at: usize, letter: u8, s: usize, t: usize) -> usize
     ensures { Put (letter ∷ parted (s ∷ t ∷ [])) out.old at out.new result }
 {
-    let first = put(out, at, letter);
-    let second = put_parted(out, first, s);
-    put_parted(out, second, t)
+    put_begun(out, at, letter, &[s, t])
 }
 
 // A line of two numbers.
 pub fn put_pair(out: &mut [u8], at: usize, letter: u8, s: usize, t: usize) -> usize
     ensures { Put (line letter (s ∷ t ∷ [])) out.old at out.new result }
 {
-    let next = open_line(out, at, letter, s, t);
-    put(out, next, b'\n')
+    put_line(out, at, letter, &[s, t])
 }
 
 // The line of an ask.
@@ -69,13 +85,8 @@ pub fn put_ask(out: &mut [u8], at: usize, s: usize, t: usize, l: usize, m: usize
     ensures { Put (ask_line s t l m) out.old at out.new result }
 {
     if l == m {
-        let next = open_line(out, at, b'S', s, t);
-        let last = put_parted(out, next, l);
-        put(out, last, b'\n')
+        put_line(out, at, b'S', &[s, t, l])
     } else {
-        let next = open_line(out, at, b'D', s, t);
-        let third = put_parted(out, next, l);
-        let last = put_parted(out, third, m);
-        put(out, last, b'\n')
+        put_line(out, at, b'D', &[s, t, l, m])
     }
 }

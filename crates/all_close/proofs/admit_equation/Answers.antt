@@ -5,12 +5,6 @@ use Rattle.all_close.proofs.Entering.{admitted}
 use Rattle.all_close.proofs.Moments.{idle-level}
 use Rattle.all_close.proofs.admit_equation.Goals as goal
 
-pub equate-q-requires : goal.equate-q-requires
-equate-q-requires c = c.requires
-
-pub settle-after-requires : goal.settle-after-requires
-settle-after-requires c = c.equate-q.ensures.state
-
 pub returns : goal.returns
 returns c =
     let e = c.equate-q.ensures in

@@ -1,46 +1,32 @@
 -- `again` meets its contract: what was found is an application that is in, and the results' labels are compared.
 -- Assumes nothing.
-use mathlib.Core.Path.{◌≡◌, ap, ◌∙◌}
+use mathlib.Core.Path.{◌≡◌, sym, ap, ◌∙◌}
 use mathlib.Core.Bool.{false}
-use Prim.Native.Nat.{ℕ, ◌-◌, ◌<◌}
+use Prim.Native.Nat.{ℕ, suc, ◌-◌, ◌<◌}
 use native.Mathlib.Omega.{arith}
-use Rattle.meaning.specs.Limits.{most_records}
+use mathlib.Core.List.{List}
+use Rattle.std.proofs.Common.{Option, Some}
 use Rattle.table.specs.Map.{result_of, label_of}
+use Rattle.table_labels.specs.Chain.{as_link}
+use Rattle.all_index.specs.declared.Front.{Front}
 use Rattle.all_index.specs.State.{eqn_at}
 use Rattle.all_settle.proofs.Views.{result_fits}
+use Rattle.all_close.specs.State.{Looked}
 use Rattle.all_close.proofs.Entering.{next_low}
 use Rattle.all_close.proofs.Moments.{again-hit, again-same}
 use Rattle.all_close.proofs.again.Goals as goal
 
-pub returns-then-p-eq0 : goal.returns-then-p-eq0
-returns-then-p-eq0 c = (λ e. let y : ◌≡◌ {A = ℕ} 0 1 = cc e in absurd (omega (arith, y)), λ g. absurd (omega (arith, g.hit, c.requires.found, c.if-p-eq0.true)))
+-- The place that a link leads to, and what stands there where it was found.
+back : (q : ℕ) → suc q - 1 ≡ q
+back q = omega arith
 
-pub overflow_sub-p : goal.overflow_sub-p
-overflow_sub-p c = omega (arith, c.if-p-eq0.false)
+hit : {t : Front} {w : List ℕ} {i q : ℕ} (p : Option ℕ) → Looked t w i (as_link p) → p ≡ Some q → (q < i) × (eqn_at w q ≡ false)
+hit {q = q} p k e = let h = again-hit k.coming.between (suc q) (ap as_link (sym e) ∙ k.found) (omega arith) in rw (back q) at h
 
 pub number-requires : goal.number-requires
-number-requires c =
-    let low : c.args.i < most_records = next_low c.requires.coming.between c.requires.coming.low in
-    let hit : 0 < c.args.p → (c.args.p - 1 < c.args.i) × (eqn_at c.args.work.now (c.args.p - 1) ≡ false) = λ l. again-hit c.requires.coming.between c.args.p c.requires.found l in
-    omega (arith, (hit (omega (arith, c.if-p-eq0.false))).0, low)
+number-requires c = omega (arith, (hit c.args.p c.requires c.in-Some.is).0, next_low c.requires.coming.between c.requires.coming.low)
 
 pub outcome-c-requires : goal.outcome-c-requires
 outcome-c-requires c =
-    let hit : 0 < c.args.p → (c.args.p - 1 < c.args.i) × (eqn_at c.args.work.now (c.args.p - 1) ≡ false) = λ l. again-hit c.requires.coming.between c.args.p c.requires.found l in
-    let h = hit (omega (arith, c.if-p-eq0.false)) in
-    result_fits c.requires.coming.between.standing.loaded (c.args.p - 1) (omega (arith, h.0, c.requires.coming.low)) h.1 _ c.number.ensures
-
-pub number-requires-2 : goal.number-requires-2
-number-requires-2 c =
-    let low : c.args.i < most_records = next_low c.requires.coming.between c.requires.coming.low in
-    low
-
-pub outcome-d-requires : goal.outcome-d-requires
-outcome-d-requires c = result_fits c.requires.coming.between.standing.loaded c.args.i c.requires.coming.low c.requires.application _ c.number-2.ensures
-
-pub returns : goal.returns
-returns c =
-    let w = c.args.work.now in
-    rw c.is.ensures (again-same c.requires.coming.between c.args.p c.requires.found _ _ (omega (arith, c.if-p-eq0.false))
-    (c.outcome-c.ensures ∙ ap (λ (k : ℕ). label_of w (result_of w k)) c.number.ensures)
-    (c.outcome-d.ensures ∙ ap (λ (k : ℕ). label_of w (result_of w k)) c.number-2.ensures))
+    let h = hit c.args.p c.requires c.in-Some.is in
+    result_fits c.requires.coming.between.standing.loaded _ (omega (arith, h.0, c.requires.coming.low)) h.1 _ c.number.ensures

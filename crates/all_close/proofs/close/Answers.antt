@@ -11,34 +11,21 @@ use Rattle.all_close.proofs.Moments.{between_start, idle-turn, close-done}
 use Rattle.all_close.proofs.close.Goals as goal
 use Rattle.all_close.proofs.close.Goals.{then-r, else-r}
 
-pub begin-requires : goal.begin-requires
-begin-requires c = c.requires.long
-
 pub loop-i-init : goal.loop-i-init
-loop-i-init c = (omega arith, within-refl _, between_start c.requires c.begin.ensures, none)
-
-pub admit-r-requires : goal.admit-r-requires
-admit-r-requires c = (c.loop-i.invariant.2, omega arith)
+loop-i-init c = (within-refl _, between_start c.requires c.begin.ensures, none)
 
 pub overflow_add-idle : goal.overflow_add-idle
-overflow_add-idle c = let l = c.loop-i.invariant in record { fits = omega (arith, count_most l.3, l.0, l.2.standing.loaded.most) }
-
-pub overflow_add-i : goal.overflow_add-i
-overflow_add-i c = let l = c.loop-i.invariant in record { fits = omega (arith, l.2.standing.loaded.most) }
-
-pub loop-i-smaller : goal.loop-i-smaller
-loop-i-smaller c = omega arith
+overflow_add-idle c = let l = c.loop-i.invariant in record { fits = omega (arith, count_most l.2, l.1.standing.loaded.most) }
 
 pub loop-i-preserved : goal.loop-i-preserved
 loop-i-preserved c =
     let a = c.admit-r.ensures in (
-      omega arith,
-      within-trans c.loop-i.invariant.1 a.frame,
+      within-trans c.loop-i.invariant.0 a.frame,
       rw add-one a.between,
-      idle-turn a c.loop-i.invariant.3 c.if-r.idle (elim c.if-r.branch [ then-r z ↦ inl (z.if-r.true, z.idle-is) | else-r z ↦ inr (z.if-r.false, z.idle-is) ]),
+      idle-turn a c.loop-i.invariant.2 c.if-r.idle (elim c.if-r.branch [ then-r z ↦ inl (z.if-r.true, z.idle-is) | else-r z ↦ inr (z.if-r.false, z.idle-is) ]),
     )
 
 pub returns : goal.returns
 returns c =
     let e : c.loop-i.i ≡ c.args.len = omega arith in
-    close-done (within-trans c.begin.ensures.frame c.loop-i.invariant.1) (rw e at c.loop-i.invariant.2) (rw e at c.loop-i.invariant.3)
+    close-done (within-trans c.begin.ensures.frame c.loop-i.invariant.0) (rw e at c.loop-i.invariant.1) (rw e at c.loop-i.invariant.2)

@@ -8,7 +8,4 @@ use Rattle.all_close.specs.State.{Between}
 use Rattle.all_close.proofs.close.Given as goal
 
 abbrev pub invariant-loop-i : goal.invariant-loop-i
-invariant-loop-i l = (l.i ≤ l.len) × Within behind_columns l.initial.work l.work × Between l.size l.len l.i l.work l.joins × Count (Idle (records_in l.len l.work)) l.i l.idle
-
-abbrev pub decreases-loop-i : goal.decreases-loop-i
-decreases-loop-i l = l.len - l.i
+invariant-loop-i l = Within behind_columns l.initial.work l.work × Between l.size l.len l.i l.work l.joins × Count (Idle (records_in l.len l.work)) l.i l.idle

@@ -10,27 +10,6 @@ use Rattle.table.specs.Places.{Large}
 use Rattle.all_close.proofs.Entering.{counted-entered, next_low, next-left, next-right, Stored, stored-as, entered}
 use Rattle.all_close.proofs.enter.Goals as goal
 
-pub number-r-requires : goal.number-r-requires
-number-r-requires c =
-    let low : c.args.i < most_records = next_low c.requires.0.between c.requires.0.low in
-    low
-
-pub left-a-requires : goal.left-a-requires
-left-a-requires c =
-    let low : c.args.i < most_records = next_low c.requires.0.between c.requires.0.low in
-    (c.requires.0.between.standing.loaded.long, omega (arith, c.number-r.ensures, low))
-
-pub right-b-requires : goal.right-b-requires
-right-b-requires c =
-    let low : c.args.i < most_records = next_low c.requires.0.between c.requires.0.low in
-    (c.requires.0.between.standing.loaded.long, omega (arith, c.number-r.ensures, low))
-
-pub last_use-p-requires : goal.last_use-p-requires
-last_use-p-requires c =
-    let left_is : c.left-a.result.0 ≡ left_of c.args.work.now (suc c.args.i) = c.left-a.ensures ∙ ap (left_of c.args.work.now) c.number-r.ensures in
-    let left-low : left_of c.args.work.now (suc c.args.i) < most_tags = next-left c.requires.0.between c.requires.0.low in
-    (c.requires.0.between.standing.loaded.long, omega (arith, left_is, left-low))
-
 -- A list begins at a place that is in.
 pub put_use-requires : goal.put_use-requires
 put_use-requires c =
@@ -38,17 +17,6 @@ put_use-requires c =
     let left_is : c.left-a.result.0 ≡ left_of c.args.work.now (suc c.args.i) = c.left-a.ensures ∙ ap (left_of c.args.work.now) c.number-r.ensures in
     let left-low : left_of c.args.work.now (suc c.args.i) < most_tags = next-left c.requires.0.between c.requires.0.low in
     (c.requires.0.between.standing.loaded.long, omega (arith, left_is, left-low), low, rw c.last_use-p.ensures (omega (arith, (c.requires.0.between.indexed.uses false).heads c.left-a.result.0, low)))
-
-pub last_use-q-requires : goal.last_use-q-requires
-last_use-q-requires c =
-    let low : c.args.i < most_records = next_low c.requires.0.between c.requires.0.low in
-    let left_is : c.left-a.result.0 ≡ left_of c.args.work.now (suc c.args.i) = c.left-a.ensures ∙ ap (left_of c.args.work.now) c.number-r.ensures in
-    let right_is : c.right-b.result.0 ≡ right_of c.args.work.now (suc c.args.i) = c.right-b.ensures ∙ ap (right_of c.args.work.now) c.number-r.ensures in
-    let left-low : left_of c.args.work.now (suc c.args.i) < most_tags = next-left c.requires.0.between c.requires.0.low in
-    let right-low : right_of c.args.work.now (suc c.args.i) < most_tags = next-right c.requires.0.between c.requires.0.low in
-    let first : Stored false (left_of c.args.work.now (suc c.args.i)) c.args.i (use_of false c.args.work.now (left_of c.args.work.now (suc c.args.i))) c.args.work.now c.put_use.new.work = stored-as c.args.work.now c.requires.0.between.standing.loaded.long _ c.args.i _ left-low low false _ _ _ left_is (c.last_use-p.ensures ∙ ap (use_of false c.args.work.now) left_is) c.put_use.ensures in
-    let long : Large c.put_use.new.work = omega (arith, c.requires.0.between.standing.loaded.long, first.frame.size) in
-    (long, omega (arith, right_is, right-low))
 
 pub put_use-requires-2 : goal.put_use-requires-2
 put_use-requires-2 c =
@@ -60,18 +28,6 @@ put_use-requires-2 c =
     let first : Stored false (left_of c.args.work.now (suc c.args.i)) c.args.i (use_of false c.args.work.now (left_of c.args.work.now (suc c.args.i))) c.args.work.now c.put_use.new.work = stored-as c.args.work.now c.requires.0.between.standing.loaded.long _ c.args.i _ left-low low false _ _ _ left_is (c.last_use-p.ensures ∙ ap (use_of false c.args.work.now) left_is) c.put_use.ensures in
     let long : Large c.put_use.new.work = omega (arith, c.requires.0.between.standing.loaded.long, first.frame.size) in
     (long, omega (arith, right_is, right-low), low, rw (c.last_use-q.ensures, first.other-use) (omega (arith, (c.requires.0.between.indexed.uses true).heads c.right-b.result.0, low)))
-
-pub put_wait-requires : goal.put_wait-requires
-put_wait-requires c =
-    let low : c.args.i < most_records = next_low c.requires.0.between c.requires.0.low in
-    let left_is : c.left-a.result.0 ≡ left_of c.args.work.now (suc c.args.i) = c.left-a.ensures ∙ ap (left_of c.args.work.now) c.number-r.ensures in
-    let right_is : c.right-b.result.0 ≡ right_of c.args.work.now (suc c.args.i) = c.right-b.ensures ∙ ap (right_of c.args.work.now) c.number-r.ensures in
-    let left-low : left_of c.args.work.now (suc c.args.i) < most_tags = next-left c.requires.0.between c.requires.0.low in
-    let right-low : right_of c.args.work.now (suc c.args.i) < most_tags = next-right c.requires.0.between c.requires.0.low in
-    let first : Stored false (left_of c.args.work.now (suc c.args.i)) c.args.i (use_of false c.args.work.now (left_of c.args.work.now (suc c.args.i))) c.args.work.now c.put_use.new.work = stored-as c.args.work.now c.requires.0.between.standing.loaded.long _ c.args.i _ left-low low false _ _ _ left_is (c.last_use-p.ensures ∙ ap (use_of false c.args.work.now) left_is) c.put_use.ensures in
-    let long : Large c.put_use.new.work = omega (arith, c.requires.0.between.standing.loaded.long, first.frame.size) in
-    let second : Stored true (right_of c.args.work.now (suc c.args.i)) c.args.i (use_of true c.put_use.new.work (right_of c.args.work.now (suc c.args.i))) c.put_use.new.work c.put_use-2.new.work = stored-as c.put_use.new.work long _ c.args.i _ right-low low true _ _ _ right_is (c.last_use-q.ensures ∙ ap (use_of true c.put_use.new.work) right_is) c.put_use-2.ensures in
-    (omega (arith, long, second.frame.size), low, omega arith)
 
 pub returns : goal.returns
 returns c =

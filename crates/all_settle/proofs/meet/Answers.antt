@@ -13,14 +13,3 @@ number-requires c = first-most c.requires
 
 pub key-x-requires : goal.key-x-requires
 key-x-requires c = row-readable c.requires.standing.loaded c.args.j (omega (arith, (first-place c.requires).0, c.requires.standing.reach)) _ c.number.ensures
-
-pub look_up-p-requires : goal.look_up-p-requires
-look_up-p-requires c = c.requires.indexed.filing
-
-pub resolve-requires : goal.resolve-requires
-resolve-requires c =
-    let key-is : c.key-x.result ≡ key_at c.args.work.now c.args.j = c.key-x.ensures ∙ ap (key_in c.args.work.now) c.number.ensures in
-    record { state = c.requires; key = key-is; found = c.look_up-p.ensures ∙ ap (found_in c.args.work.now) key-is }
-
-pub returns : goal.returns
-returns c = c.resolve.ensures

@@ -8,21 +8,21 @@ use Rattle.answer_all.proofs.Midway.{midway-begin, midway-ended, midway-meeting,
 use Rattle.answer_all.proofs.answer_all.Goals as goal
 
 pub loop-c-init : goal.loop-c-init
-loop-c-init c = midway-begin c.args.job.now _ _ _ _ _ _ c.behind.ensures c.requires.0 c.requires.1
+loop-c-init g c = midway-begin c.args.job.now _ _ _ _ _ _ c.behind.ensures c.requires.0 c.requires.2 c.requires.1
 
 pub returns-then-is_end : goal.returns-then-is_end
-returns-then-is_end c = midway-ended c.args.job.now _ _ _ _ _ _ _ _ c.loop-c.invariant (said c.read-field.result) c.read-field.ensures (sym c.is_end.ensures ∙ c.if-is_end.true)
+returns-then-is_end g c = midway-ended g.met.P.Profile.laws c.args.job.now _ _ _ _ _ _ _ _ c.loop-c.invariant (said c.read-field.result) c.read-field.ensures (sym c.is_end.ensures ∙ c.if-is_end.true)
 
 pub behind-requires-in-loop-c : goal.behind-requires-in-loop-c
-behind-requires-in-loop-c c = midway-within c.args.job.now _ _ _ _ _ _ _ _ c.loop-c.invariant
+behind-requires-in-loop-c g c = midway-within g.met.P.Profile.laws c.args.job.now _ _ _ _ _ _ _ _ c.loop-c.invariant
 
 pub answer_field-p-requires : goal.answer_field-p-requires
-answer_field-p-requires c = midway-meeting c.args.job.now _ _ _ _ _ _ _ _ c.loop-c.invariant (said c.read-field.result) c.read-field.ensures (sym c.is_end.ensures ∙ c.if-is_end.false)
+answer_field-p-requires g c = (midway-meeting g.met.P.Profile.laws c.args.job.now _ _ _ _ _ _ _ _ c.loop-c.invariant (said c.read-field.result) c.read-field.ensures (sym c.is_end.ensures ∙ c.if-is_end.false), c.loop-c.invariant.asks)
 
 pub loop-c-smaller : goal.loop-c-smaller
-loop-c-smaller c =
-    let d = midway-closer c.args.job.now _ _ _ _ _ _ _ _ c.loop-c.invariant (said c.read-field.result) _ _ _ _ c.read-field.ensures c.behind-in-loop-c.ensures c.answer_field-p.ensures in
+loop-c-smaller g c =
+    let d = midway-closer g.met.P.Profile.laws c.args.job.now _ _ _ _ _ _ _ _ c.loop-c.invariant (said c.read-field.result) _ _ _ _ c.read-field.ensures c.behind-in-loop-c.ensures c.answer_field-p.ensures in
     omega (arith, d.0, d.1)
 
 pub loop-c-preserved : goal.loop-c-preserved
-loop-c-preserved c = midway-on c.args.job.now _ _ _ _ _ _ _ _ c.loop-c.invariant (said c.read-field.result) _ _ _ _ c.read-field.ensures c.behind-in-loop-c.ensures c.answer_field-p.ensures
+loop-c-preserved g c = midway-on g.met.P.Profile.laws c.args.job.now _ _ _ _ _ _ _ _ c.loop-c.invariant (said c.read-field.result) _ _ _ _ c.read-field.ensures c.behind-in-loop-c.ensures c.answer_field-p.ensures

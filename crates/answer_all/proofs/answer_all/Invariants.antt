@@ -8,7 +8,7 @@ use Rattle.answer_all.specs.Asking.{Midway}
 use Rattle.answer_all.proofs.answer_all.Given as goal
 
 abbrev pub invariant-loop-c : goal.invariant-loop-c
-invariant-loop-c l = Midway l.job l.initial.work l.initial.room (head_of l.c) l.c.len l.c.joins l.p l.work l.room
+invariant-loop-c g l = Midway g.P.Profile.rules l.job l.initial.work l.initial.room (head_of l.c) l.c.len l.c.joins l.p l.work l.room
 
 abbrev pub decreases-loop-c : goal.decreases-loop-c
-decreases-loop-c l = length l.job - l.p.at
+decreases-loop-c g l = length l.job - l.p.at

@@ -10,8 +10,8 @@ use Rattle.report.proofs.Known.{ask-known}
 use Rattle.report.proofs.Bytes.{length-field, length-numbers}
 use Rattle.answer_ask.proofs.answer_ask.Goals as goal
 
-pub leaders-p-requires : goal.leaders-p-requires
-leaders-p-requires c =
+pub leaders-requires : goal.leaders-requires
+leaders-requires c =
     let f = c.requires in
     (record { forest = past-forest f.past; few = f.past.loaded.few; units = f.units; low = omega (arith, f.past.low, f.past.loaded.few) }, f.tags.0, f.tags.1.0)
 
@@ -22,9 +22,9 @@ pub returns : goal.returns
 returns c =
     let f = c.requires in
     let a = c.args in
-    let p = c.leaders-p in
-    let l = p.result.one.0 in
-    let m = p.result.other.0 in
+    let p = c.leaders in
+    let l = p.result.0.0 in
+    let m = p.result.1.0 in
     let h = p.ensures.leads a.c.len f.past f.passed in
     record {
       field = field 131 (numbers (l ∷ m ∷ []));

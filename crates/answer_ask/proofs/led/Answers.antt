@@ -8,8 +8,8 @@ use Rattle.moment.proofs.Kept.{past-forest}
 use Rattle.answer_ask.proofs.Right.{led-right, led-wrong}
 use Rattle.answer_ask.proofs.led.Goals as goal
 
-pub leaders-p-requires : goal.leaders-p-requires
-leaders-p-requires c =
+pub leaders-requires : goal.leaders-requires
+leaders-requires c =
     let f = c.requires.0 in
     (record { forest = past-forest f.past; few = f.past.loaded.few; units = f.units; low = omega (arith, f.past.low, f.past.loaded.few) }, f.from, f.to)
 
@@ -19,17 +19,17 @@ is_led-requires c = c.requires.1
 pub returns-then-is_led : goal.returns-then-is_led
 returns-then-is_led c =
     let f = c.requires.0 in
-    let h = c.leaders-p.ensures.leads c.args.q.len f.past f.early in
+    let h = c.leaders.ensures.leads c.args.q.len f.past f.early in
     record {
-      kept = within_wider scratch (omega arith) (omega arith) c.leaders-p.ensures.frame;
+      kept = within_wider scratch (omega arith) (omega arith) c.leaders.ensures.frame;
       right = led-right h.0 h.1 c.args.report.now c.args.at (c.is_led.ensures.0 c.if-is_led.true);
     }
 
 pub returns-else-is_led : goal.returns-else-is_led
 returns-else-is_led c =
     let f = c.requires.0 in
-    let h = c.leaders-p.ensures.leads c.args.q.len f.past f.early in
+    let h = c.leaders.ensures.leads c.args.q.len f.past f.early in
     record {
-      kept = within_wider scratch (omega arith) (omega arith) c.leaders-p.ensures.frame;
+      kept = within_wider scratch (omega arith) (omega arith) c.leaders.ensures.frame;
       right = led-wrong h.0 h.1 c.args.report.now c.args.at (λ g. true-or-false (c.is_led.ensures.1 g) c.if-is_led.false);
     }

@@ -33,14 +33,14 @@ leader_of-m-requires c =
 pub write_bare-requires : goal.write_bare-requires
 write_bare-requires c = omega (arith, c.requires.fits)
 
-pub returns-then-is : goal.returns-then-is
-returns-then-is c =
+pub returns-then-eq : goal.returns-then-eq
+returns-then-eq c =
     let f = c.requires in
     let a = c.args in
     let d = c.lead.ensures in
     record {
       field = field 137 [];
-      right = λ M b K. why-known K (field 137 []) (joined {s = a.s.0} {t = a.t.0} (same-follows d f.past f.passed f.tags.0 f.tags.1.0 c.leader_of-l.ensures c.leader_of-m.ensures (eqb-true _ _ (sym c.is.ensures ∙ c.if-is.true))));
+      right = λ M b K. why-known K (field 137 []) (joined {s = a.s.0} {t = a.t.0} (same-follows d f.past f.passed f.tags.0 f.tags.1.0 c.leader_of-l.ensures c.leader_of-m.ensures (eqb-true _ _ (sym c.eq.ensures ∙ c.if-eq.true))));
       front = c.write_bare.ensures;
       reached = omega (arith, length-field 137 []);
       kept = within_wider scratch (omega arith) (omega arith) d.frame;
@@ -62,7 +62,7 @@ returns c =
     let L = gather (leader_in c.lead.new.work) a.c.size in
     record {
       field = field 136 (numbers L);
-      right = λ M b K. why-known K (field 136 (numbers L)) (parted {s = a.s.0} {t = a.t.0} {L = L} (other-apart d f.past f.passed f.tags.0 f.tags.1.0 c.leader_of-l.ensures c.leader_of-m.ensures (eqb-false _ _ (sym c.is.ensures ∙ c.if-is.false))) (led-all d f.past f.passed));
+      right = λ M b K. why-known K (field 136 (numbers L)) (parted {s = a.s.0} {t = a.t.0} {L = L} (other-apart d f.past f.passed f.tags.0 f.tags.1.0 c.leader_of-l.ensures c.leader_of-m.ensures (eqb-false _ _ (sym c.eq.ensures ∙ c.if-eq.false))) (led-all d f.past f.passed));
       front = c.write_leaders.ensures;
       reached = omega (arith, length-leaders (leader_in c.lead.new.work) a.c.size 136);
       kept = within_wider scratch (omega arith) (omega arith) d.frame;

@@ -22,13 +22,13 @@ pub loop-i-preserved : goal.loop-i-preserved
 loop-i-preserved c =
     let a = c.args in
     let l = c.loop-i in
-    (search rules, list-held-more a.report.now a.at (leader_in a.work.now) l.i l.invariant.1 (c.is_leader.ensures.0 c.if-is_leader.true))
+    (search rules, list-held-more a.report.now a.at (leader_in a.work.now) l.i l.invariant.1 (c.is_leader.ensures.0 c.if-not-is_leader.false))
 
-pub returns-else-is_leader : goal.returns-else-is_leader
-returns-else-is_leader c =
+pub returns-then-not-is_leader : goal.returns-then-not-is_leader
+returns-then-not-is_leader c =
     let a = c.args in
     let l = c.loop-i in
-    is-not (λ h. true-or-false (c.is_leader.ensures.1 (list-held-at a.report.now a.at (leader_in a.work.now) a.size l.i c.loop-i-test.true h)) c.if-is_leader.false)
+    is-not (λ h. true-or-false (c.is_leader.ensures.1 (list-held-at a.report.now a.at (leader_in a.work.now) a.size l.i c.loop-i-test.true h)) c.if-not-is_leader.true)
 
 pub returns : goal.returns
 returns c =

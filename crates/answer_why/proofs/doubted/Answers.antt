@@ -37,15 +37,15 @@ returns-then-is_bare c =
     let f = c.requires.0 in
     let a = c.args in
     let d = c.lead.ensures in
-    let g = same-follows d f.past f.early f.from f.to c.leader_of-l.ensures c.leader_of-m.ensures (eqb-true _ _ (sym c.is.ensures ∙ c.if-is.true)) in
+    let g = same-follows d f.past f.early f.from f.to c.leader_of-l.ensures c.leader_of-m.ensures (eqb-true _ _ (sym c.eq.ensures ∙ c.if-eq.true)) in
     record { kept = within_wider scratch (omega arith) (omega arith) d.frame; right = joined-right a.report.now a.at g (c.is_bare.ensures.0 c.if-is_bare.true) }
 
-pub returns-then-is : goal.returns-then-is
-returns-then-is c =
+pub returns-then-eq : goal.returns-then-eq
+returns-then-eq c =
     let f = c.requires.0 in
     let a = c.args in
     let d = c.lead.ensures in
-    let g = same-follows d f.past f.early f.from f.to c.leader_of-l.ensures c.leader_of-m.ensures (eqb-true _ _ (sym c.is.ensures ∙ c.if-is.true)) in
+    let g = same-follows d f.past f.early f.from f.to c.leader_of-l.ensures c.leader_of-m.ensures (eqb-true _ _ (sym c.eq.ensures ∙ c.if-eq.true)) in
     record { kept = within_wider scratch (omega arith) (omega arith) d.frame; right = joined-wrong a.report.now a.at g (λ h. true-or-false (c.is_bare.ensures.1 h) c.if-is_bare.false) }
 
 pub is_parted-requires : goal.is_parted-requires
@@ -61,7 +61,7 @@ returns-then-is_parted c =
     let f = c.requires.0 in
     let a = c.args in
     let d = c.lead.ensures in
-    let g = other-apart d f.past f.early f.from f.to c.leader_of-l.ensures c.leader_of-m.ensures (eqb-false _ _ (sym c.is.ensures ∙ c.if-is.false)) in
+    let g = other-apart d f.past f.early f.from f.to c.leader_of-l.ensures c.leader_of-m.ensures (eqb-false _ _ (sym c.eq.ensures ∙ c.if-eq.false)) in
     record { kept = within_wider scratch (omega arith) (omega arith) d.frame; right = parted-right a.report.now a.at g (led-all d f.past f.early) (c.is_parted.ensures.0 c.if-is_parted.true) (omega (arith, length-leaders (leader_in c.lead.new.work) a.q.size 136)) }
 
 pub returns-else-is_parted : goal.returns-else-is_parted
@@ -69,5 +69,5 @@ returns-else-is_parted c =
     let f = c.requires.0 in
     let a = c.args in
     let d = c.lead.ensures in
-    let g = other-apart d f.past f.early f.from f.to c.leader_of-l.ensures c.leader_of-m.ensures (eqb-false _ _ (sym c.is.ensures ∙ c.if-is.false)) in
+    let g = other-apart d f.past f.early f.from f.to c.leader_of-l.ensures c.leader_of-m.ensures (eqb-false _ _ (sym c.eq.ensures ∙ c.if-eq.false)) in
     record { kept = within_wider scratch (omega arith) (omega arith) d.frame; right = parted-wrong a.report.now a.at g (led-all d f.past f.early) (λ h. true-or-false (c.is_parted.ensures.1 h) c.if-is_parted.false) }

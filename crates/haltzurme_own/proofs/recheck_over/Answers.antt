@@ -7,11 +7,11 @@ use Rattle.haltzurme.proofs.Rechecked.{weighed-rechecked}
 use Rattle.haltzurme_own.proofs.recheck_over.Goals as goal
 
 pub weigh-requires : goal.weigh-requires
-weigh-requires c = received-begun c.receive_over-s.ensures.received
+weigh-requires c = received-begun c.receive_over-looked.ensures.received
 
 pub returns : goal.returns
 returns c =
-    let o = c.receive_over-s in
+    let o = c.receive_over-looked in
     let f = c.weigh in
     record {
       records = o.ensures.records;

@@ -7,11 +7,11 @@ use Rattle.haltzurme_own.proofs.Inside.{inside-room}
 use Rattle.haltzurme_own.proofs.run_over.Goals as goal
 
 pub finish-requires : goal.finish-requires
-finish-requires c = received-begun c.receive_over-s.ensures.received
+finish-requires c = received-begun c.receive_over-looked.ensures.received
 
 pub returns : goal.returns
 returns c =
-    let o = c.receive_over-s in
+    let o = c.receive_over-looked in
     let f = c.finish in
     let ran = finished-ran c.args.job.now c.args.room.now _ c.args.work.now _ _ _ o.ensures.received _ _ _ _ _ f.ensures in
     record { records = o.ensures.records; ran = ran; room_kept = f.auto.room; work_kept = f.auto.work ∙ o.auto.work; inside = inside-room ran }

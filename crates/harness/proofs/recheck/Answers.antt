@@ -5,7 +5,7 @@ use Rattle.harness.proofs.Rechecked.{weighed-rechecked}
 use Rattle.harness.proofs.recheck.Goals as goal
 
 pub weigh-requires : goal.weigh-requires
-weigh-requires c = received-begun c.receive-s.ensures
+weigh-requires c = received-begun c.receive-looked.ensures
 
 pub returns : goal.returns
-returns c = weighed-rechecked c.args.job.now c.args.report.now c.args.records.now c.args.work.now c.receive-s.result c.receive-s.new.records c.receive-s.new.work c.receive-s.ensures _ _ _ c.weigh.ensures
+returns c = weighed-rechecked c.args.job.now c.args.report.now c.args.records.now c.args.work.now _ c.receive-looked.new.records c.receive-looked.new.work c.receive-looked.ensures _ _ _ c.weigh.ensures

@@ -5,7 +5,7 @@ use Rattle.harness.proofs.Ran.{finished-ran}
 use Rattle.harness.proofs.run.Goals as goal
 
 pub finish-requires : goal.finish-requires
-finish-requires c = received-begun c.receive-s.ensures
+finish-requires c = received-begun c.receive-looked.ensures
 
 pub returns : goal.returns
-returns c = finished-ran c.args.job.now c.args.room.now c.args.records.now c.args.work.now c.receive-s.result c.receive-s.new.records c.receive-s.new.work c.receive-s.ensures _ _ _ _ _ c.finish.ensures
+returns c = finished-ran c.args.job.now c.args.room.now c.args.records.now c.args.work.now _ c.receive-looked.new.records c.receive-looked.new.work c.receive-looked.ensures _ _ _ _ _ c.finish.ensures

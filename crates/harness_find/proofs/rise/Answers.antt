@@ -10,12 +10,6 @@ loop-k-init c = sweep-start c.requires.room
 pub try_record-requires : goal.try_record-requires
 try_record-requires c = sweep-trying c.requires c.loop-k.invariant c.loop-k-test.true
 
-pub overflow_add-k : goal.overflow_add-k
-overflow_add-k c = omega (arith, c.loop-k-test.true, c.requires.done.few)
-
-pub loop-k-smaller : goal.loop-k-smaller
-loop-k-smaller c = omega (arith, c.loop-k-test.true)
-
 pub loop-k-preserved : goal.loop-k-preserved
 loop-k-preserved c = sweep-on c.loop-k.invariant c.loop-k-test.true c.try_record.ensures
 

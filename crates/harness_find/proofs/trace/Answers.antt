@@ -20,12 +20,6 @@ put_listed-requires c = (trace-long c.requires c.loop-i.invariant, omega (arith,
 pub far-v-requires : goal.far-v-requires
 far-v-requires c = (omega (arith, trace-long c.requires c.loop-i.invariant, ap length c.put_listed.ensures, length-set c.loop-i.work (LIST.at + c.loop-i.i) c.last_record-k.result.0), trace-record c.requires c.loop-i.invariant c.loop-i-test.true c.last_record-k.ensures)
 
-pub overflow_add-i : goal.overflow_add-i
-overflow_add-i c = omega (arith, c.loop-i-test.true, c.requires.found.deep)
-
-pub loop-i-smaller : goal.loop-i-smaller
-loop-i-smaller c = omega (arith, c.loop-i-test.true)
-
 pub loop-i-preserved : goal.loop-i-preserved
 loop-i-preserved c = trace-on c.requires c.loop-i.invariant c.loop-i-test.true c.last_record-k.ensures c.put_listed.ensures c.far-v.ensures
 

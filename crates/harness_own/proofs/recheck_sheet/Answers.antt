@@ -6,13 +6,13 @@ use Rattle.harness.proofs.Rechecked.{weighed-rechecked}
 use Rattle.harness_own.proofs.recheck_sheet.Goals as goal
 
 pub weigh-requires : goal.weigh-requires
-weigh-requires c = received-begun c.receive_over-s.ensures.received
+weigh-requires c = received-begun c.receive_over-looked.ensures.received
 
 pub returns : goal.returns
 returns c =
-    let o = rw c.none-each.ensures at c.receive_over-s.ensures in
+    let o = c.receive_over-looked.ensures in
     record {
       records = o.records;
       rechecked = weighed-rechecked c.args.job.now c.args.report.now _ c.args.work.now _ _ _ o.received _ _ _ c.weigh.ensures;
-      work_kept = c.weigh.auto.work ∙ c.receive_over-s.auto.work;
+      work_kept = c.weigh.auto.work ∙ c.receive_over-looked.auto.work;
     }

@@ -7,23 +7,23 @@ use Rattle.moment.proofs.Kept.{past-forest}
 use Rattle.harness_reason.proofs.Answering.{answer-same, answer-apart, answer-after, asks-shortest, answer-shortest}
 use Rattle.harness_reason.proofs.explain.Goals as goal
 
-pub returns-then-is : goal.returns-then-is
-returns-then-is c = answer-same c.requires.question (eqb-true _ _ (sym c.is.ensures ∙ c.if-is.true))
+pub returns-then-eq : goal.returns-then-eq
+returns-then-eq c = answer-same c.requires.question (eqb-true _ _ (sym c.eq.ensures ∙ c.if-eq.true))
 
-pub met-b-requires : goal.met-b-requires
-met-b-requires c = let q = c.requires.question in record { forested = past-forest q.past; s_lt_most_tags = (omega (arith, q.s-tag, q.past.loaded.few), omega (arith, q.t-tag, q.past.loaded.few), (eqb-false _ _ (sym c.is.ensures ∙ c.if-is.false))) }
+pub met-requires : goal.met-requires
+met-requires c = let q = c.requires.question in record { forested = past-forest q.past; s_lt_most_tags = (omega (arith, q.s-tag, q.past.loaded.few), omega (arith, q.t-tag, q.past.loaded.few), (eqb-false _ _ (sym c.eq.ensures ∙ c.if-eq.false))) }
 
-pub returns-then-b-joins : goal.returns-then-b-joins
-returns-then-b-joins c = answer-apart c.requires.question c.met-b.ensures c.if-b-joins.true
+pub returns-in_err-b : goal.returns-in_err-b
+returns-in_err-b c = rw c.from_residual.ensures (answer-apart c.requires.question c.in_err-b.ensures)
 
 pub made-requires : goal.made-requires
-made-requires c = let q = c.requires.question in (q.past.loaded.long, omega (arith, q.past.low, q.past.loaded.few, c.if-b-joins.false))
+made-requires c = (c.requires.question.past.loaded.long, c.in_ok-b.ensures.1)
 
 pub returns-then-made-before : goal.returns-then-made-before
-returns-then-made-before c = answer-after c.requires.question c.met-b.ensures c.if-b-joins.false c.made.ensures c.if-made-before.true
+returns-then-made-before c = answer-after c.requires.question c.in_ok-b.ensures c.made.ensures c.if-made-before.true
 
 pub shortest-requires : goal.shortest-requires
-shortest-requires c = record { tags = c.args.size; records = c.args.len; equal = asks-shortest c.requires.question c.requires.plain c.met-b.ensures c.if-b-joins.false c.made.ensures c.if-made-before.false }
+shortest-requires c = record { tags = c.args.size; records = c.args.len; equal = asks-shortest c.requires.question c.requires.plain c.in_ok-b.ensures c.made.ensures c.if-made-before.false }
 
 pub returns : goal.returns
-returns c = answer-shortest c.requires.question (asks-shortest c.requires.question c.requires.plain c.met-b.ensures c.if-b-joins.false c.made.ensures c.if-made-before.false) c.shortest.ensures
+returns c = answer-shortest c.requires.question (asks-shortest c.requires.question c.requires.plain c.in_ok-b.ensures c.made.ensures c.if-made-before.false) c.shortest.ensures

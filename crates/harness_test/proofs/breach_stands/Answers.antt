@@ -14,8 +14,8 @@ overflow_add-at c = omega (arith, field_fits c.requires.2 (c.is_field.ensures.0 
 pub number_in-requires : goal.number_in-requires
 number_in-requires c = omega (arith, field_fits c.requires.2 (c.is_field.ensures.0 c.if-is_field.true))
 
-pub returns-then-wide-number : goal.returns-then-wide-number
-returns-then-wide-number c = stands-other c.args.report.now c.args.at 134 (numbers (c.args.number ∷ list_in c.args.count c.args.work.now)) (pair-other c.args.report.now c.args.at c.args.number (list_in c.args.count c.args.work.now) c.number_in.ensures (λ e. c.if-wide-number.true (c.wide.ensures ∙ e)))
+pub returns-then-from-number : goal.returns-then-from-number
+returns-then-from-number c = stands-other c.args.report.now c.args.at 134 (numbers (c.args.number ∷ list_in c.args.count c.args.work.now)) (pair-other c.args.report.now c.args.at c.args.number (list_in c.args.count c.args.work.now) c.number_in.ensures (λ e. c.if-from-number.true (c.from.ensures ∙ e)))
 
 pub overflow_add-at-then-is_field : goal.overflow_add-at-then-is_field
 overflow_add-at-then-is_field c = omega (arith, field_fits c.requires.2 (c.is_field.ensures.0 c.if-is_field.true))
@@ -30,7 +30,7 @@ pub overflow_add-result-then-is_list : goal.overflow_add-result-then-is_list
 overflow_add-result-then-is_list c = omega (arith, field_fits c.requires.2 (c.is_field.ensures.0 c.if-is_field.true))
 
 pub returns-then-is_list : goal.returns-then-is_list
-returns-then-is_list c = stands-right c.args.report.now c.args.at 134 (numbers (c.args.number ∷ list_in c.args.count c.args.work.now)) (c.is_field.ensures.0 c.if-is_field.true) (breach-bytes c.args.work.now c.args.number c.args.count) (pair-both c.args.report.now c.args.at c.args.number (list_in c.args.count c.args.work.now) c.number_in.ensures (sym c.wide.ensures ∙ c.if-wide-number.false) (c.is_list.ensures.0 c.if-is_list.true))
+returns-then-is_list c = stands-right c.args.report.now c.args.at 134 (numbers (c.args.number ∷ list_in c.args.count c.args.work.now)) (c.is_field.ensures.0 c.if-is_field.true) (breach-bytes c.args.work.now c.args.number c.args.count) (pair-both c.args.report.now c.args.at c.args.number (list_in c.args.count c.args.work.now) c.number_in.ensures (sym c.from.ensures ∙ c.if-from-number.false) (c.is_list.ensures.0 c.if-is_list.true))
 
 pub returns-else-is_list : goal.returns-else-is_list
 returns-else-is_list c = stands-other c.args.report.now c.args.at 134 (numbers (c.args.number ∷ list_in c.args.count c.args.work.now)) (λ h. untrue c.is_list.ensures c.if-is_list.false (pair-list c.args.report.now c.args.at c.args.number (list_in c.args.count c.args.work.now) h))

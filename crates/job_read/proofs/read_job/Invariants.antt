@@ -6,8 +6,8 @@ use Prim.Native.Nat.{◌-◌}
 use lib.ListN.{length}
 use Rattle.job_read.proofs.read_job.Given as goal
 
-abbrev pub invariant-loop-t : goal.invariant-loop-t
-invariant-loop-t l = Seeing l.job l.s
+abbrev pub invariant-loop-next : goal.invariant-loop-next
+invariant-loop-next l = Seeing l.job l.seen
 
-abbrev pub decreases-loop-t : goal.decreases-loop-t
-decreases-loop-t l = length l.job - l.s.at
+abbrev pub decreases-loop-next : goal.decreases-loop-next
+decreases-loop-next l = length l.job - l.seen.at

@@ -11,11 +11,11 @@ returns-then-bytes-lt2 c = breach-short c.if-bytes-lt2.true
 pub number_in-requires : goal.number_in-requires
 number_in-requires c = omega (arith, c.requires.1, c.if-bytes-lt2.false)
 
-pub returns-then-wide-number : goal.returns-then-wide-number
-returns-then-wide-number c = breach-another c.number_in.ensures (λ e. c.if-wide-number.true (c.wide.ensures ∙ e))
+pub returns-then-from-number : goal.returns-then-from-number
+returns-then-from-number c = breach-another c.number_in.ensures (λ e. c.if-from-number.true (c.from.ensures ∙ e))
 
 pub is_reason-requires : goal.is_reason-requires
 is_reason-requires c = (c.requires.0, omega (arith, c.requires.1, c.if-bytes-lt2.false))
 
 pub returns : goal.returns
-returns c = breach-reason (omega (arith, c.if-bytes-lt2.false)) c.number_in.ensures (sym c.wide.ensures ∙ c.if-wide-number.false) c.is_reason.ensures
+returns c = breach-reason (omega (arith, c.if-bytes-lt2.false)) c.number_in.ensures (sym c.from.ensures ∙ c.if-from-number.false) c.is_reason.ensures

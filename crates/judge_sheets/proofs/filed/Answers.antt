@@ -3,11 +3,11 @@
 use Rattle.judge_sheets.proofs.Behind.{listed-there, sheets-missing, sheets-there}
 use Rattle.judge_sheets.proofs.filed.Goals as goal
 
-pub is_sheets-p-requires : goal.is_sheets-p-requires
-is_sheets-p-requires c = (listed-there c.requires.0 c.read_reason.ensures, c.requires.0.within)
+pub is_sheets-requires : goal.is_sheets-requires
+is_sheets-requires c = (listed-there c.requires.0 c.read_reason.ensures, c.requires.0.within)
 
-pub returns-then-p-eq0 : goal.returns-then-p-eq0
-returns-then-p-eq0 c = sheets-missing c.requires.0 c.read_reason.ensures c.requires.1 c.is_sheets-p.ensures c.if-p-eq0.true
+pub returns-in-None : goal.returns-in-None
+returns-in-None c = sheets-missing c.requires.0 c.read_reason.ensures c.requires.1 c.in-None.ensures
 
-pub returns : goal.returns
-returns c = sheets-there c.requires.0 c.read_reason.ensures c.requires.1 c.is_sheets-p.ensures c.if-p-eq0.false
+pub returns-in-Some : goal.returns-in-Some
+returns-in-Some c = sheets-there c.requires.0 c.read_reason.ensures c.requires.1 c.in-Some.p c.in-Some.ensures

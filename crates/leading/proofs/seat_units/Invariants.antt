@@ -4,7 +4,4 @@ use Rattle.leading.proofs.Seating.{Seating}
 use Rattle.leading.proofs.seat_units.Given as goal
 
 abbrev pub invariant-loop-i : goal.invariant-loop-i
-invariant-loop-i l = (l.unit ≤ l.i) × (l.i ≤ l.size) × Seating l.initial.work l.work l.size l.i
-
-abbrev pub decreases-loop-i : goal.decreases-loop-i
-decreases-loop-i l = l.i
+invariant-loop-i l = (l.unit ≤ l.i) × Seating l.initial.work l.work l.size l.i

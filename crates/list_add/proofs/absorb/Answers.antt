@@ -17,4 +17,4 @@ overflow_add-result c = let p = c.requires in omega (arith, join-room p.0.standi
 pub returns : goal.returns
 returns c =
     let p = c.requires in
-    rw add-one (busy-join p.0 p.1 p.2 c.wake_class-last.ensures c.join.ensures, went-join p.0 p.1 p.2 c.wake_class-last.ensures c.join.ensures, rank-join _ _ (join-room p.0.standing p.1), one_label p.0 p.1 p.2 c.wake_class-last.ensures c.join.ensures)
+    rw add-one ((busy-join p.0 p.1 p.2 c.wake_class-last.ensures c.join.ensures, went-join p.0 p.1 p.2 c.wake_class-last.ensures c.join.ensures, rank-join _ _ (join-room p.0.standing p.1)), one_label p.0 p.1 p.2 c.wake_class-last.ensures c.join.ensures)

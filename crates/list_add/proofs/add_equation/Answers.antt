@@ -22,22 +22,22 @@ label-a-requires c = let a = c.requires.0 in ((equation-busy a.rested (omega (ar
 pub label-c-requires : goal.label-c-requires
 label-c-requires c = let a = c.requires.0 in ((equation-busy a.rested (omega (arith, a.top)) c.requires.1 (a.outs _ (omega arith) (omega arith)) c.put_queued.ensures (λ e. omega arith) refl c.requires.2).standing.long, rw (side_right a.rested (omega (arith, a.top)) c.requires.1 (a.outs _ (omega arith) (omega arith)) c.put_queued.ensures (λ e. omega arith) c.requires.3 c.right-y.ensures) (equation-tags a.rested (omega (arith, a.top)) c.requires.1 (a.outs _ (omega arith) (omega arith)) c.put_queued.ensures (λ e. omega arith) refl c.requires.2).2)
 
-pub returns-then-is : goal.returns-then-is
-returns-then-is c =
+pub returns-then-eq : goal.returns-then-eq
+returns-then-eq c =
     let a = c.requires.0 in
     let x = side_left a.rested (omega (arith, a.top)) c.requires.1 (a.outs _ (omega arith) (omega arith)) c.put_queued.ensures (λ e. omega arith) c.requires.3 c.left-x.ensures in
     let y = side_right a.rested (omega (arith, a.top)) c.requires.1 (a.outs _ (omega arith) (omega arith)) c.put_queued.ensures (λ e. omega arith) c.requires.3 c.right-y.ensures in
-    equation-added a.rested (omega (arith, a.top)) c.requires.1 (a.outs _ (omega arith) (omega arith)) c.put_queued.ensures (λ e. omega arith) (went-same _) (equation-busy a.rested (omega (arith, a.top)) c.requires.1 (a.outs _ (omega arith) (omega arith)) c.put_queued.ensures (λ e. omega arith) refl c.requires.2) (ap (label_of _) (sym x) ∙ sym c.label-a.ensures ∙ eqb-true _ _ (sym c.is.ensures ∙ c.if-is.true) ∙ c.label-c.ensures ∙ ap (label_of _) y)
+    equation-added a.rested (omega (arith, a.top)) c.requires.1 (a.outs _ (omega arith) (omega arith)) c.put_queued.ensures (λ e. omega arith) (went-same _) (equation-busy a.rested (omega (arith, a.top)) c.requires.1 (a.outs _ (omega arith) (omega arith)) c.put_queued.ensures (λ e. omega arith) refl c.requires.2) (ap (label_of _) (sym x) ∙ sym c.label-a.ensures ∙ eqb-true _ _ (sym c.eq.ensures ∙ c.if-eq.true) ∙ c.label-c.ensures ∙ ap (label_of _) y)
 
 pub unite-q-requires : goal.unite-q-requires
 unite-q-requires c =
     let a = c.requires.0 in
     let x = c.label-a.ensures ∙ ap (label_of _) (side_left a.rested (omega (arith, a.top)) c.requires.1 (a.outs _ (omega arith) (omega arith)) c.put_queued.ensures (λ e. omega arith) c.requires.3 c.left-x.ensures) in
     let y = c.label-c.ensures ∙ ap (label_of _) (side_right a.rested (omega (arith, a.top)) c.requires.1 (a.outs _ (omega arith) (omega arith)) c.put_queued.ensures (λ e. omega arith) c.requires.3 c.right-y.ensures) in
-    (equation-busy a.rested (omega (arith, a.top)) c.requires.1 (a.outs _ (omega arith) (omega arith)) c.put_queued.ensures (λ e. omega arith) refl c.requires.2, equation-apart a.rested (omega (arith, a.top)) c.requires.1 (a.outs _ (omega arith) (omega arith)) c.put_queued.ensures (λ e. omega arith) refl c.requires.2 x y (eqb-false _ _ (sym c.is.ensures ∙ c.if-is.false)), equation-follows a.rested (omega (arith, a.top)) c.requires.1 (a.outs _ (omega arith) (omega arith)) c.put_queued.ensures (λ e. omega arith) refl c.requires.2 x y)
+    (equation-busy a.rested (omega (arith, a.top)) c.requires.1 (a.outs _ (omega arith) (omega arith)) c.put_queued.ensures (λ e. omega arith) refl c.requires.2, equation-apart a.rested (omega (arith, a.top)) c.requires.1 (a.outs _ (omega arith) (omega arith)) c.put_queued.ensures (λ e. omega arith) refl c.requires.2 x y (eqb-false _ _ (sym c.eq.ensures ∙ c.if-eq.false)), equation-follows a.rested (omega (arith, a.top)) c.requires.1 (a.outs _ (omega arith) (omega arith)) c.put_queued.ensures (λ e. omega arith) refl c.requires.2 x y)
 
 pub settle-requires : goal.settle-requires
-settle-requires c = c.unite-q.ensures.0
+settle-requires c = c.unite-q.ensures.0.0
 
 pub returns : goal.returns
 returns c =
@@ -46,4 +46,4 @@ returns c =
     let y = c.label-c.ensures ∙ ap (label_of _) (side_right a.rested (omega (arith, a.top)) c.requires.1 (a.outs _ (omega arith) (omega arith)) c.put_queued.ensures (λ e. omega arith) c.requires.3 c.right-y.ensures) in
     let u = c.unite-q.ensures in
     let s = c.settle.ensures in
-    equation-added a.rested (omega (arith, a.top)) c.requires.1 (a.outs _ (omega arith) (omega arith)) c.put_queued.ensures (λ e. omega arith) (went_then u.1 s.1) s.0 (equation-level a.rested (omega (arith, a.top)) c.requires.1 (a.outs _ (omega arith) (omega arith)) c.put_queued.ensures (λ e. omega arith) refl c.requires.2 x y u.1 u.3 s.1)
+    equation-added a.rested (omega (arith, a.top)) c.requires.1 (a.outs _ (omega arith) (omega arith)) c.put_queued.ensures (λ e. omega arith) (went_then u.0.1 s.1) s.0 (equation-level a.rested (omega (arith, a.top)) c.requires.1 (a.outs _ (omega arith) (omega arith)) c.put_queued.ensures (λ e. omega arith) refl c.requires.2 x y u.0.1 u.1 s.1)

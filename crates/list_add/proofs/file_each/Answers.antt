@@ -6,19 +6,13 @@ use Rattle.table.proofs.Frame.{within-refl, within-trans}
 use Rattle.list_add.proofs.file_each.Goals as goal
 
 pub loop-i-init : goal.loop-i-init
-loop-i-init c = (omega arith, c.requires, within-refl _)
+loop-i-init c = (c.requires, within-refl _)
 
 pub file-requires : goal.file-requires
-file-requires c = (c.loop-i.invariant.1, c.loop-i-test.true)
-
-pub overflow_add-i : goal.overflow_add-i
-overflow_add-i c = omega (arith, c.loop-i-test.true, c.loop-i.invariant.1.listing.short)
-
-pub loop-i-smaller : goal.loop-i-smaller
-loop-i-smaller c = omega (arith, c.loop-i-test.true)
+file-requires c = (c.loop-i.invariant.0, c.loop-i-test.true)
 
 pub loop-i-preserved : goal.loop-i-preserved
-loop-i-preserved c = let e = c.file.ensures in rw add-one (c.loop-i-test.true, e.0, within-trans c.loop-i.invariant.2 e.1)
+loop-i-preserved c = let e = c.file.ensures in rw add-one (e.0, within-trans c.loop-i.invariant.1 e.1)
 
 pub returns : goal.returns
-returns c = let v = c.loop-i.invariant in let e : c.loop-i.i ≡ c.args.t.n = omega (arith, v.0, c.loop-i-test.false) in (rw e at v.1, v.2)
+returns c = let v = c.loop-i.invariant in let e : c.loop-i.i ≡ c.args.t.n = omega (arith, c.loop-i-test.false) in (rw e at v.0, v.1)

@@ -3,6 +3,7 @@ use mathlib.Core.Path.{sym, ◌∙◌}
 use mathlib.Core.Bool.{true≢false}
 use borrow.Author.Tests.{eq-eqb, eqb-false, eqb-true}
 use Rattle.list_add.proofs.Seeks.{legible-left, legible-right, legible-place, match-left, match-right}
+use Rattle.std.proofs.lemmas.Bool.{not-false, not-true}
 use Rattle.list_add.proofs.matches.Goals as goal
 
 pub queued-requires : goal.queued-requires
@@ -23,8 +24,8 @@ right-y-requires c = (c.requires.0.falling.long, legible-place c.args.i c.requir
 pub label-s-requires : goal.label-s-requires
 label-s-requires c = (c.requires.0.falling.long, legible-left c.args.i c.requires.0 (sym c.queued.ensures ∙ c.if-queued-ne1.false) c.placed-r.ensures c.left-x.ensures)
 
-pub returns-then-not-is : goal.returns-then-not-is
-returns-then-not-is c = ((λ e. absurd (true≢false (sym e))), λ m. absurd (eqb-false _ _ (sym c.is.ensures ∙ c.if-not-is.true) (match-left c.args.work.now c.args.i c.placed-r.ensures c.left-x.ensures c.label-s.ensures ∙ m.left)))
+pub returns-then-ne : goal.returns-then-ne
+returns-then-ne c = ((λ e. absurd (true≢false (sym e))), λ m. absurd (eqb-false _ _ (not-true _ (sym c.ne.ensures ∙ c.if-ne.true)) (match-left c.args.work.now c.args.i c.placed-r.ensures c.left-x.ensures c.label-s.ensures ∙ m.left)))
 
 pub label-t-requires : goal.label-t-requires
 label-t-requires c = (c.requires.0.falling.long, legible-right c.args.i c.requires.0 (sym c.queued.ensures ∙ c.if-queued-ne1.false) c.placed-r.ensures c.right-y.ensures)
@@ -33,4 +34,4 @@ pub returns : goal.returns
 returns c =
     let l = match-left c.args.work.now c.args.i c.placed-r.ensures c.left-x.ensures c.label-s.ensures in
     let r = match-right c.args.work.now c.args.i c.placed-r.ensures c.right-y.ensures c.label-t.ensures in
-    ((λ e. record { rests = sym c.queued.ensures ∙ c.if-queued-ne1.false; left = sym l ∙ eqb-true _ _ (sym c.is.ensures ∙ c.if-not-is.false); right = sym r ∙ eqb-true _ _ (sym c.is-2.ensures ∙ e) }), λ m. c.is-2.ensures ∙ eq-eqb _ _ (r ∙ m.right))
+    ((λ e. record { rests = sym c.queued.ensures ∙ c.if-queued-ne1.false; left = sym l ∙ eqb-true _ _ (not-false _ (sym c.ne.ensures ∙ c.if-ne.false)); right = sym r ∙ eqb-true _ _ (sym c.eq.ensures ∙ e) }), λ m. c.eq.ensures ∙ eq-eqb _ _ (r ∙ m.right))

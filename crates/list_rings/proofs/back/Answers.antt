@@ -8,14 +8,8 @@ use Rattle.list_rings.proofs.back.Goals as goal
 pub loop-i-init : goal.loop-i-init
 loop-i-init c = returning-start c.requires.1 c.requires.0
 
-pub overflow_sub-i : goal.overflow_sub-i
-overflow_sub-i c = omega arith
-
 pub part-requires : goal.part-requires
 part-requires c = let e : c.loop-i.i ≡ suc (c.loop-i.i - 1) = omega arith in rw e at c.loop-i.invariant.standing
-
-pub loop-i-smaller : goal.loop-i-smaller
-loop-i-smaller c = omega arith
 
 pub loop-i-preserved : goal.loop-i-preserved
 loop-i-preserved c = let e : c.loop-i.i ≡ suc (c.loop-i.i - 1) = omega arith in returning-more (omega arith) (rw e at c.loop-i.invariant) c.part.ensures

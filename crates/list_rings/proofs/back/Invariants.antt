@@ -4,6 +4,3 @@ use Rattle.list_rings.proofs.back.Given as goal
 
 abbrev pub invariant-loop-i : goal.invariant-loop-i
 invariant-loop-i l = Returning l.initial.work l.work l.k l.j l.i
-
-abbrev pub decreases-loop-i : goal.decreases-loop-i
-decreases-loop-i l = l.i

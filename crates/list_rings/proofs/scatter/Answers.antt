@@ -13,12 +13,6 @@ tag_at-requires c = omega (arith, c.loop-x-test.true)
 pub part_off-requires : goal.part_off-requires
 part_off-requires c = (omega (arith, c.loop-x.invariant.long, c.loop-x.invariant.kept.size), omega (arith, c.tag_at.ensures, c.loop-x-test.true))
 
-pub overflow_add-x : goal.overflow_add-x
-overflow_add-x c = omega (arith, c.loop-x-test.true)
-
-pub loop-x-smaller : goal.loop-x-smaller
-loop-x-smaller c = omega (arith, c.loop-x-test.true)
-
 pub loop-x-preserved : goal.loop-x-preserved
 loop-x-preserved c = rw add-one (scattering-more c.loop-x-test.true c.tag_at.ensures c.loop-x.invariant c.part_off.ensures)
 

@@ -9,7 +9,7 @@ use Rattle.moment.proofs.age_after.Goals as goal
 use Rattle.moment.proofs.age_after.Goals.{then-made-before, else-made-before}
 
 pub loop-a-init : goal.loop-a-init
-loop-a-init c = (search rules, search rules, omega arith)
+loop-a-init c = (search rules, omega arith)
 
 pub loop-a-preserved : goal.loop-a-preserved
 loop-a-preserved c =
@@ -17,9 +17,9 @@ loop-a-preserved c =
     let h = when_of c.args.work.now in
     let k = c.args.before in
     elim c.if-made-before.branch [
-      | then-made-before w ↦ (omega arith, omega arith, w.n-is ∙ count-in h k at.a at.n c.made.result c.made.ensures w.if-made-before.true at.invariant.2)
-      | else-made-before w ↦ (omega arith, omega arith, w.n-is ∙ count-out h k at.a at.n c.made.result c.made.ensures w.if-made-before.false at.invariant.2)
+      | then-made-before w ↦ (omega arith, w.n-is ∙ count-in h k at.a at.n c.made.result c.made.ensures w.if-made-before.true at.invariant.1)
+      | else-made-before w ↦ (omega arith, w.n-is ∙ count-out h k at.a at.n c.made.result c.made.ensures w.if-made-before.false at.invariant.1)
     ]
 
 pub returns : goal.returns
-returns c = let q : c.loop-a.a ≡ c.args.joins = omega arith in rw (← q) c.loop-a.invariant.2
+returns c = let q : c.loop-a.a ≡ c.args.joins = omega arith in rw (← q) c.loop-a.invariant.1

@@ -7,16 +7,13 @@ use Rattle.pairs.proofs.Marking.{scan-next}
 use Rattle.pairs.proofs.first_broken.Goals as goal
 
 pub loop-i-init : goal.loop-i-init
-loop-i-init c = (omega arith, λ j l. absurd (omega arith))
+loop-i-init c = λ j l. absurd (omega arith)
 
 pub returns-then-since-before : goal.returns-then-since-before
-returns-then-since-before c = hit {j = c.loop-i.i} refl (omega arith) (omega (arith, c.since.ensures, c.if-since-before.true)) c.loop-i.invariant.1
-
-pub loop-i-smaller : goal.loop-i-smaller
-loop-i-smaller c = omega arith
+returns-then-since-before c = hit {j = c.loop-i.i} refl (omega arith) (omega (arith, c.since.ensures, c.if-since-before.true)) c.loop-i.invariant
 
 pub loop-i-preserved : goal.loop-i-preserved
-loop-i-preserved c = (omega arith, scan-next _ c.loop-i.invariant.1 c.since.ensures (omega (arith, c.if-since-before.false)))
+loop-i-preserved c = scan-next _ c.loop-i.invariant c.since.ensures (omega (arith, c.if-since-before.false))
 
 pub returns : goal.returns
-returns c = none refl (λ j k. c.loop-i.invariant.1 j (omega (arith, c.loop-i.invariant.0)))
+returns c = none refl (λ j k. c.loop-i.invariant j (omega arith))

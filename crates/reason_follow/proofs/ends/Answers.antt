@@ -32,16 +32,16 @@ right-requires c = (c.requires.past.loaded.long, omega (arith, (holds-ranged c.r
 pub result-requires : goal.result-requires
 result-requires c = (c.requires.past.loaded.long, omega (arith, (holds-ranged c.requires).first, c.first-p.ensures))
 
-pub result-requires-else-is_none : goal.result-requires-else-is_none
-result-requires-else-is_none c = (c.requires.past.loaded.long, omega (arith, (holds-ranged c.requires).second, c.second-q.ensures))
+pub result-requires-else-eq : goal.result-requires-else-eq
+result-requires-else-eq c = (c.requires.past.loaded.long, omega (arith, (holds-ranged c.requires).second, c.second-q.ensures))
 
-pub returns-then-is_none : goal.returns-then-is_none
-returns-then-is_none c =
+pub returns-then-eq : goal.returns-then-eq
+returns-then-eq c =
     let p = c.first-p.ensures in
-    one _ _ _ _ (sym c.second-q.ensures ∙ (eqb-true _ _ (sym c.is_none.ensures ∙ c.if-is_none.true))) (rw p at c.left.ensures) (rw p at c.right.ensures)
+    one _ _ _ _ (sym c.second-q.ensures ∙ (eqb-true _ _ (sym c.eq.ensures ∙ c.if-eq.true))) (rw p at c.left.ensures) (rw p at c.right.ensures)
 
-pub returns-else-is_none : goal.returns-else-is_none
-returns-else-is_none c =
+pub returns-else-eq : goal.returns-else-eq
+returns-else-eq c =
     let p = c.first-p.ensures in
     let q = c.second-q.ensures in
-    two _ _ _ _ (λ z. (eqb-false _ _ (sym c.is_none.ensures ∙ c.if-is_none.false)) (q ∙ z)) (rw p at c.result.ensures) (rw q at c.result-else-is_none.ensures)
+    two _ _ _ _ (λ z. (eqb-false _ _ (sym c.eq.ensures ∙ c.if-eq.false)) (q ∙ z)) (rw p at c.result.ensures) (rw q at c.result-else-eq.ensures)

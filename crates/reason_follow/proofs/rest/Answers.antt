@@ -14,14 +14,14 @@ returns-then-mark-ne1 c = rested-unmarked c.requires.1 (λ e. c.if-mark-ne1.true
 pub causes_of-k-requires : goal.causes_of-k-requires
 causes_of-k-requires c = c.requires.0
 
-pub returns-then-is_none : goal.returns-then-is_none
-returns-then-is_none c = rested-one c.requires.1 c.causes_of-k.ensures (eqb-true _ _ (sym c.is_none.ensures ∙ c.if-is_none.true))
+pub returns-then-eq : goal.returns-then-eq
+returns-then-eq c = rested-one c.requires.1 c.causes_of-k.ensures (eqb-true _ _ (sym c.eq.ensures ∙ c.if-eq.true))
 
 pub pass-requires : goal.pass-requires
-pass-requires c = (caused-lefts c.requires.0 c.causes_of-k.ensures (eqb-false _ _ (sym c.is_none.ensures ∙ c.if-is_none.false)), c.requires.1)
+pass-requires c = (caused-lefts c.requires.0 c.causes_of-k.ensures (eqb-false _ _ (sym c.eq.ensures ∙ c.if-eq.false)), c.requires.1)
 
 pub pass-requires-2 : goal.pass-requires-2
-pass-requires-2 c = (kept-together c.pass.ensures.kept (caused-rights c.requires.0 c.causes_of-k.ensures (eqb-false _ _ (sym c.is_none.ensures ∙ c.if-is_none.false))), c.pass.ensures.remembers)
+pass-requires-2 c = (kept-together c.pass.ensures.kept (caused-rights c.requires.0 c.causes_of-k.ensures (eqb-false _ _ (sym c.eq.ensures ∙ c.if-eq.false))), c.pass.ensures.remembers)
 
 pub returns : goal.returns
-returns c = rested-two c.causes_of-k.ensures (eqb-false _ _ (sym c.is_none.ensures ∙ c.if-is_none.false)) (sym c.mark.ensures ∙ c.if-mark-ne1.false) c.pass.ensures c.pass-2.ensures
+returns c = rested-two c.causes_of-k.ensures (eqb-false _ _ (sym c.eq.ensures ∙ c.if-eq.false)) (sym c.mark.ensures ∙ c.if-mark-ne1.false) c.pass.ensures c.pass-2.ensures

@@ -19,17 +19,17 @@ module _ (w : List ℕ) (s t b near far l m : ℕ) (X : Crossed w s t b) (e : En
   back : l ≢ m → Sided w s t b far near
   back i = rw (e.near-is, e.far-is) (sided-back X (λ h. i (p ∙ h ∙ ap (leader_at w b) (sym e.near-is) ∙ sym q)))
 
-pub ends-e-requires : goal.ends-e-requires
-ends-e-requires c = c.requires.holds
+pub ends-requires : goal.ends-requires
+ends-requires c = c.requires.holds
 
 pub leader-l-requires : goal.leader-l-requires
 leader-l-requires c = record { forested = past-forest c.requires.holds.past; age_le_most_tags = (omega (arith, (holds-ranged c.requires.holds).age), c.requires.from) }
 
 pub leader-m-requires : goal.leader-m-requires
-leader-m-requires c = record { forested = past-forest c.requires.holds.past; age_le_most_tags = (omega (arith, (holds-ranged c.requires.holds).age), omega (arith, (holds-ranged c.requires.holds).u-tag, c.ends-e.ensures.near-is)) }
+leader-m-requires c = record { forested = past-forest c.requires.holds.past; age_le_most_tags = (omega (arith, (holds-ranged c.requires.holds).age), omega (arith, (holds-ranged c.requires.holds).u-tag, c.ends.ensures.near-is)) }
 
-pub returns-then-is : goal.returns-then-is
-returns-then-is c = over _ _ _ _ _ _ _ _ c.requires c.ends-e.ensures c.leader-l.ensures c.leader-m.ensures (eqb-true _ _ (sym c.is.ensures ∙ c.if-is.true))
+pub returns-then-eq : goal.returns-then-eq
+returns-then-eq c = over _ _ _ _ _ _ _ _ c.requires c.ends.ensures c.leader-l.ensures c.leader-m.ensures (eqb-true _ _ (sym c.eq.ensures ∙ c.if-eq.true))
 
-pub returns-else-is : goal.returns-else-is
-returns-else-is c = back _ _ _ _ _ _ _ _ c.requires c.ends-e.ensures c.leader-l.ensures c.leader-m.ensures (eqb-false _ _ (sym c.is.ensures ∙ c.if-is.false))
+pub returns-else-eq : goal.returns-else-eq
+returns-else-eq c = back _ _ _ _ _ _ _ _ c.requires c.ends.ensures c.leader-l.ensures c.leader-m.ensures (eqb-false _ _ (sym c.eq.ensures ∙ c.if-eq.false))

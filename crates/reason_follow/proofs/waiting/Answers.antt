@@ -6,14 +6,14 @@ use Rattle.reason_follow.proofs.waiting.Goals as goal
 pub next-v-requires : goal.next-v-requires
 next-v-requires c = (c.requires.holds.past.loaded.long, c.requires.place)
 
-pub ends-e-requires : goal.ends-e-requires
-ends-e-requires c = read_first c.requires c.next-v.ensures (omega (arith, c.if-v-lt-MOST_TAGS.true))
+pub ends-requires : goal.ends-requires
+ends-requires c = read_first c.requires c.next-v.ensures (omega (arith, c.if-v-lt-MOST_TAGS.true))
 
-pub ends-e-requires-else-v-lt-MOST_TAGS : goal.ends-e-requires-else-v-lt-MOST_TAGS
-ends-e-requires-else-v-lt-MOST_TAGS c = read-second c.requires c.next-v.ensures (omega (arith, c.if-v-lt-MOST_TAGS.false))
+pub ends-requires-else-v-lt-MOST_TAGS : goal.ends-requires-else-v-lt-MOST_TAGS
+ends-requires-else-v-lt-MOST_TAGS c = read-second c.requires c.next-v.ensures (omega (arith, c.if-v-lt-MOST_TAGS.false))
 
 pub returns-then-v-lt-MOST_TAGS : goal.returns-then-v-lt-MOST_TAGS
-returns-then-v-lt-MOST_TAGS c = read-over c.next-v.ensures (omega (arith, c.if-v-lt-MOST_TAGS.true)) c.ends-e.ensures
+returns-then-v-lt-MOST_TAGS c = read-over c.next-v.ensures (omega (arith, c.if-v-lt-MOST_TAGS.true)) c.ends.ensures
 
 pub returns-else-v-lt-MOST_TAGS : goal.returns-else-v-lt-MOST_TAGS
-returns-else-v-lt-MOST_TAGS c = read_back c.requires c.next-v.ensures (omega (arith, c.if-v-lt-MOST_TAGS.false)) c.ends-e-else-v-lt-MOST_TAGS.ensures
+returns-else-v-lt-MOST_TAGS c = read_back c.requires c.next-v.ensures (omega (arith, c.if-v-lt-MOST_TAGS.false)) c.ends-else-v-lt-MOST_TAGS.ensures

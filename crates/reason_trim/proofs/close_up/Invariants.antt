@@ -1,10 +1,6 @@
 -- `trimming::close_up` meets its contract, place by place. Assumes nothing.
-use Prim.Native.Nat.{◌-◌, ◌≤◌}
 use Rattle.reason_trim.proofs.Closing.{Closing}
 use Rattle.reason_trim.proofs.close_up.Given as goal
 
 abbrev pub invariant-loop-i : goal.invariant-loop-i
-invariant-loop-i l = (l.i ≤ l.n) × Closing l.initial.work l.work l.i l.kept
-
-abbrev pub decreases-loop-i : goal.decreases-loop-i
-decreases-loop-i l = l.n - l.i
+invariant-loop-i l = Closing l.initial.work l.work l.i l.kept

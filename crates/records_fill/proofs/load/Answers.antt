@@ -6,4 +6,4 @@ use Rattle.records_fill.proofs.load.Goals as goal
 pub returns : goal.returns
 returns c =
     let e : c.loop-i.i ≡ c.args.n = omega arith in
-    rw (c.loop-i.invariant.1, e) (loads-carried c.args.n c.args.records.now c.args.work.now c.requires)
+    rw (c.loop-i.invariant, e) (loads-carried c.args.n c.args.records.now c.args.work.now c.requires)

@@ -5,10 +5,10 @@ use Rattle.job_field.proofs.Reading.{field-whole}
 use Rattle.records_fill.proofs.look.Goals as goal
 
 pub behind-requires : goal.behind-requires
-behind-requires c = omega (arith, field-whole c.args.job.now c.args.at _ tt (sym c.in-Noted.ensures))
+behind-requires c = omega (arith, field-whole c.args.job.now c.args.at _ tt (sym (rw c.in-Ok-Noted.field-0-is at c.in-Ok-Noted.ensures)))
 
-pub behind-requires-in-Posed : goal.behind-requires-in-Posed
-behind-requires-in-Posed c = omega (arith, field-whole c.args.job.now c.args.at _ tt (sym c.in-Posed.ensures))
+pub behind-requires-in-Ok-Posed : goal.behind-requires-in-Ok-Posed
+behind-requires-in-Ok-Posed c = omega (arith, field-whole c.args.job.now c.args.at _ tt (sym (rw c.in-Ok-Posed.field-0-is at c.in-Ok-Posed.ensures)))
 
-pub behind-requires-in-Header : goal.behind-requires-in-Header
-behind-requires-in-Header c = omega (arith, field-whole c.args.job.now c.args.at _ tt (sym c.in-Header.ensures))
+pub behind-requires-in-Ok-Header : goal.behind-requires-in-Ok-Header
+behind-requires-in-Ok-Header c = omega (arith, field-whole c.args.job.now c.args.at _ tt (sym (rw c.in-Ok-Header.field-0-is at c.in-Ok-Header.ensures)))

@@ -1,29 +1,20 @@
 -- `report_numbers::read_reason` meets its contract: a turn brings the next number of the report to the next place of the list.
 -- Assumes nothing.
 use native.Mathlib.Omega.{arith}
-use Prim.Native.Nat.{ℕ, ◌≤◌}
-use mathlib.Core.Path.{◌≡◌, subst}
+use mathlib.Core.Path.{◌≡◌}
 use lib.ListN.{length}
-use Rattle.report_numbers.specs.Read.{ListRead}
 use Rattle.report_numbers.proofs.Listing.{list-read-none, list-read-more}
 use Rattle.report_numbers.proofs.read_reason.Goals as goal
 
 pub loop-i-init : goal.loop-i-init
-loop-i-init c = let a = c.args in (omega arith, list-read-none a.report.now a.at a.work.now)
+loop-i-init c = let a = c.args in list-read-none a.report.now a.at a.work.now
 
 pub read_listed-requires : goal.read_listed-requires
-read_listed-requires c = let f : length c.loop-i.work ≡ length c.args.work.now = c.loop-i.invariant.1.kept.size in (omega (arith, c.requires), omega (arith, c.requires), omega (arith, c.requires))
+read_listed-requires c = let f : length c.loop-i.work ≡ length c.args.work.now = c.loop-i.invariant.kept.size in (omega (arith, c.requires), omega (arith, c.requires), omega (arith, c.requires))
 
 pub loop-i-preserved : goal.loop-i-preserved
 loop-i-preserved c =
     let a = c.args in
     let l = c.loop-i in
-    let f : length l.work ≡ length a.work.now = l.invariant.1.kept.size in
-    let i : l.i ≤ a.count = l.invariant.0 in
-    (omega arith, list-read-more a.report.now a.at l.i a.work.now l.work c.read_listed.new.work (omega (arith, c.requires)) (omega (arith, c.requires)) l.invariant.1 c.read_listed.ensures)
-
-pub returns : goal.returns
-returns c =
-    let a = c.args in
-    let e : c.loop-i.i ≡ a.count = omega (arith, c.loop-i.invariant.0) in
-    subst (λ (n : ℕ). ListRead a.report.now a.at n a.work.now c.loop-i.work) e c.loop-i.invariant.1
+    let f : length l.work ≡ length a.work.now = l.invariant.kept.size in
+    list-read-more a.report.now a.at l.i a.work.now l.work c.read_listed.new.work (omega (arith, c.requires)) (omega (arith, c.requires)) l.invariant c.read_listed.ensures

@@ -3,5 +3,8 @@
 use Rattle.saying.proofs.Saying.{ran-true}
 use Rattle.saying.proofs.answer_job.Goals as goal
 
-pub returns : goal.returns
-returns c = ran-true c.run_job-ran.ensures c.tell_answer.ensures
+pub returns-in-Ok : goal.returns-in-Ok
+returns-in-Ok c = ran-true c.in-Ok.ensures c.tell_answer.ensures
+
+pub returns-in-Err : goal.returns-in-Err
+returns-in-Err c = ran-true c.in-Err.ensures (rw c.from.ensures at c.tell_answer-in-Err.ensures)

@@ -1,30 +1,30 @@
-use Rattle.script_commands.proofs.Asking.{ask-on}
-use Rattle.script_commands.proofs.Making.{command-declare, command-assert, command-check, command-other}
-use lib.Seq.{slice}
+use borrow.Author.Rules.{rules}
+use mathlib.Core.Path.{◌≡◌, ap}
+use mathlib.Core.Logic.{◌≢◌}
+use Rattle.script_tokens.specs.declared.Kind.TheVariants.{Known}
+use Rattle.script_tokens.specs.Kinds.{number}
+use Rattle.script_tokens.proofs.Apart.{number-apart}
 use Rattle.script_commands.proofs.Asking.{ask-on}
 use Rattle.script_commands.proofs.Making.{command-declare, command-assert, command-check, command-other}
 use Rattle.script_commands.proofs.command.Goals as goal
 
-pub read_at-x-requires : goal.read_at-x-requires
-read_at-x-requires c = c.requires.0.inside
-
 pub declare_fun-requires : goal.declare_fun-requires
-declare_fun-requires c = (ask-on c.requires.0 c.read_at-x.ensures.inside, c.requires.1, c.requires.2)
+declare_fun-requires c = ask-on c.requires c.read_at-x.ensures.inside
 
-pub returns-then-kind-eq-DECLARE_FUN : goal.returns-then-kind-eq-DECLARE_FUN
-returns-then-kind-eq-DECLARE_FUN c = command-declare c.read_at-x.ensures (slice c.args.first c.args.last c.args.script.now) c.if-kind-eq-DECLARE_FUN.true c.declare_fun.ensures
+pub returns-then-eq : goal.returns-then-eq
+returns-then-eq c = let e : c.read_at-x.result.kind ≡ Known 29 = search (rules, c.if-eq.ensures) in command-declare c.read_at-x.ensures c.args.sort.now _ (ap number e) c.declare_fun.ensures
 
 pub assertion-requires : goal.assertion-requires
-assertion-requires c = ask-on c.requires.0 c.read_at-x.ensures.inside
+assertion-requires c = ask-on c.requires c.read_at-x.ensures.inside
 
-pub returns-then-kind-eq-ASSERT : goal.returns-then-kind-eq-ASSERT
-returns-then-kind-eq-ASSERT c = command-assert c.read_at-x.ensures (slice c.args.first c.args.last c.args.script.now) c.if-kind-eq-ASSERT.true c.assertion.ensures
+pub returns-then-eq-2 : goal.returns-then-eq-2
+returns-then-eq-2 c = let e : c.read_at-x.result.kind ≡ Known 23 = search (rules, c.if-eq-2.ensures) in command-assert c.read_at-x.ensures c.args.sort.now _ (ap number e) c.assertion.ensures
 
 pub check_sat-requires : goal.check_sat-requires
-check_sat-requires c = ask-on c.requires.0 c.read_at-x.ensures.inside
+check_sat-requires c = ask-on c.requires c.read_at-x.ensures.inside
 
-pub returns-then-kind-eq-CHECK_SAT : goal.returns-then-kind-eq-CHECK_SAT
-returns-then-kind-eq-CHECK_SAT c = command-check c.read_at-x.ensures (slice c.args.first c.args.last c.args.script.now) c.if-kind-eq-CHECK_SAT.true c.check_sat.ensures
+pub returns-then-eq-3 : goal.returns-then-eq-3
+returns-then-eq-3 c = let e : c.read_at-x.result.kind ≡ Known 24 = search (rules, c.if-eq-3.ensures) in command-check c.read_at-x.ensures c.args.sort.now _ (ap number e) c.check_sat.ensures
 
 pub returns : goal.returns
-returns c = command-other c.read_at-x.ensures (slice c.args.first c.args.last c.args.script.now) c.if-kind-eq-DECLARE_FUN.false c.if-kind-eq-ASSERT.false c.if-kind-eq-CHECK_SAT.false c.refuse.ensures.0 c.refuse.ensures.1
+returns c = let a : c.read_at-x.result.kind ≢ Known 29 = search (rules, c.if-eq.ensures) in let b : c.read_at-x.result.kind ≢ Known 23 = search (rules, c.if-eq-2.ensures) in let d : c.read_at-x.result.kind ≢ Known 24 = search (rules, c.if-eq-3.ensures) in command-other c.read_at-x.ensures c.args.sort.now (number-apart a) (number-apart b) (number-apart d)

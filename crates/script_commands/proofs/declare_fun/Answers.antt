@@ -1,45 +1,40 @@
+use Prim.Native.Nat.{suc}
+use lib.ListN.{length}
 use native.Mathlib.Omega.{arith}
+use Rattle.script_steps.proofs.Outcomes.{handed}
 use Rattle.script_commands.proofs.Asking.{ask-room, ask-readable}
-use Rattle.script_steps.proofs.Stepping.{wanted-on, sort-on, sorts-on, name-on}
-use Rattle.script_commands.proofs.Making.{declare-name, declare-open, declare-sorts, declare-sort, declare-close, declare-good}
-use lib.Seq.{slice}
-use Rattle.script_commands.proofs.Asking.{ask-room, ask-readable}
-use Rattle.script_steps.proofs.Stepping.{wanted-on, sort-on, sorts-on, name-on}
 use Rattle.script_commands.proofs.Making.{declare-name, declare-open, declare-sorts, declare-sort, declare-close, declare-good}
 use Rattle.script_commands.proofs.declare_fun.Goals as goal
 
-pub new_name-x-requires : goal.new_name-x-requires
-new_name-x-requires c = ask-readable c.requires.0
+pub new_name-requires : goal.new_name-requires
+new_name-requires c = ask-readable c.requires
 
-pub returns-then-x-ne0 : goal.returns-then-x-ne0
-returns-then-x-ne0 c = declare-name (slice c.args.first c.args.last c.args.script.now) c.new_name-x.ensures c.if-x-ne0.true c.refuse.ensures.0 c.refuse.ensures.1
+pub returns-in_err-name : goal.returns-in_err-name
+returns-in_err-name c = let q = handed c.from_residual.ensures in rw q (declare-name c.args.sort.now c.in_err-name.ensures)
 
-pub want-o-requires : goal.want-o-requires
-want-o-requires c = ((name-on c.new_name-x.ensures c.requires.0.start.holding c.if-x-ne0.false).inside, tt)
+pub want-requires : goal.want-requires
+want-requires c = ((c.in_ok-name.ensures.names c.requires.seen c.requires.fields c.requires.start.holding).holds.inside, tt)
 
-pub returns-then-o-ne0 : goal.returns-then-o-ne0
-returns-then-o-ne0 c = declare-open (slice c.args.first c.args.last c.args.script.now) c.new_name-x.ensures c.if-x-ne0.false c.want-o.ensures c.if-o-ne0.true c.refuse-then-o-ne0.ensures.0 c.refuse-then-o-ne0.ensures.1
+pub returns-in_err-opening : goal.returns-in_err-opening
+returns-in_err-opening c = let q = handed c.from_residual-in_err-opening.ensures in rw q (declare-open c.args.sort.now c.in_ok-name.ensures c.in_err-opening.ensures)
 
-pub sorts-k-requires : goal.sorts-k-requires
-sorts-k-requires c = (c.requires.1, c.requires.2, (wanted-on c.want-o.ensures c.if-o-ne0.false).1, c.requires.0.short)
+pub sorts-requires : goal.sorts-requires
+sorts-requires c = (c.in_ok-opening.ensures.out.holds.inside, c.requires.short)
 
-pub returns-then-k-ne0 : goal.returns-then-k-ne0
-returns-then-k-ne0 c = declare-sorts (slice c.args.first c.args.last c.args.script.now) c.new_name-x.ensures c.if-x-ne0.false c.want-o.ensures c.if-o-ne0.false c.sorts-k.ensures c.if-k-ne0.true c.refuse-then-k-ne0.ensures.0 c.refuse-then-k-ne0.ensures.1
+pub returns-in_err-takes : goal.returns-in_err-takes
+returns-in_err-takes c = let q = handed c.from_residual-in_err-takes.ensures in rw q (declare-sorts c.args.sort.now c.in_ok-name.ensures c.in_ok-opening.ensures c.in_err-takes.ensures)
 
-pub sort_at-r-requires : goal.sort_at-r-requires
-sort_at-r-requires c = (c.requires.1, c.requires.2, (sorts-on c.sorts-k.ensures c.if-k-ne0.false).1)
+pub sort_at-requires : goal.sort_at-requires
+sort_at-requires c = (c.in_ok-takes.ensures.reads (suc (length c.args.script.now)) (omega arith)).holds.inside
 
-pub returns-then-r-ne0 : goal.returns-then-r-ne0
-returns-then-r-ne0 c = declare-sort (slice c.args.first c.args.last c.args.script.now) c.new_name-x.ensures c.if-x-ne0.false c.want-o.ensures c.if-o-ne0.false c.sorts-k.ensures c.if-k-ne0.false c.sort_at-r.ensures c.if-r-ne0.true c.refuse-then-r-ne0.ensures.0 c.refuse-then-r-ne0.ensures.1
+pub returns-in_err-gives : goal.returns-in_err-gives
+returns-in_err-gives c = let q = handed c.from_residual-in_err-gives.ensures in rw q (declare-sort c.args.sort.now c.in_ok-name.ensures c.in_ok-opening.ensures c.in_ok-takes.ensures c.in_err-gives.ensures)
 
-pub want-c-requires : goal.want-c-requires
-want-c-requires c = ((sort-on c.sort_at-r.ensures c.if-r-ne0.false).1, tt)
+pub returns-in_err-closing : goal.returns-in_err-closing
+returns-in_err-closing c = let q = handed c.from_residual-in_err-closing.ensures in rw q (declare-close c.args.sort.now c.in_ok-name.ensures c.in_ok-opening.ensures c.in_ok-takes.ensures c.in_ok-gives.ensures c.in_err-closing.ensures)
 
-pub returns-then-c-ne0 : goal.returns-then-c-ne0
-returns-then-c-ne0 c = declare-close (slice c.args.first c.args.last c.args.script.now) c.new_name-x.ensures c.if-x-ne0.false c.want-o.ensures c.if-o-ne0.false c.sorts-k.ensures c.if-k-ne0.false c.sort_at-r.ensures c.if-r-ne0.false c.want-c.ensures c.if-c-ne0.true c.refuse-then-c-ne0.ensures.0 c.refuse-then-c-ne0.ensures.1
-
-pub declare-n-requires : goal.declare-n-requires
-declare-n-requires c = let z = (name-on c.new_name-x.ensures c.requires.0.start.holding c.if-x-ne0.false) in let v = ask-room c.requires.0 in let y = z.order in record { long = v.long; few = v.symbols; order = omega arith; within = z.inside; short = c.requires.0.short }
+pub declare-declared-requires : goal.declare-declared-requires
+declare-declared-requires c = let z = (c.in_ok-name.ensures.names c.requires.seen c.requires.fields c.requires.start.holding).holds in let v = ask-room c.requires in let y = z.order in record { long = v.long; few = v.symbols; order = omega arith; within = z.inside; short = c.requires.short }
 
 pub returns : goal.returns
-returns c = declare-good (slice c.args.first c.args.last c.args.script.now) c.new_name-x.ensures c.if-x-ne0.false c.want-o.ensures c.if-o-ne0.false c.sorts-k.ensures c.if-k-ne0.false c.sort_at-r.ensures c.if-r-ne0.false c.want-c.ensures c.if-c-ne0.false c.declare-n.ensures c.finish.ensures
+returns c = declare-good c.args.sort.now c.in_ok-name.ensures c.in_ok-opening.ensures c.in_ok-takes.ensures c.in_ok-gives.ensures c.in_ok-closing.ensures _ c.declare-declared.ensures c.finish.ensures

@@ -1,41 +1,32 @@
 use native.Mathlib.Omega.{arith}
+use Rattle.script_steps.proofs.Outcomes.{handed}
 use Rattle.script_commands.proofs.Asking.{ask-on, ask-room, sides-next}
-use Rattle.script_steps.proofs.Stepping.{wanted-on}
 use Rattle.script_commands.proofs.Making.{negate-open, negate_word, negate-sides, negate-inner, negate-close, negate_good}
 use Rattle.script_commands.proofs.negation.Goals as goal
 
-pub want-o-requires : goal.want-o-requires
-want-o-requires c = (c.requires.inside, tt)
+pub returns-in_err-opening : goal.returns-in_err-opening
+returns-in_err-opening c = let q = handed c.from_residual.ensures in rw q (negate-open c.in_err-opening.ensures)
 
-pub returns-then-o-ne0 : goal.returns-then-o-ne0
-returns-then-o-ne0 c = negate-open c.want-o.ensures c.if-o-ne0.true c.refuse.ensures.0 c.refuse.ensures.1
+pub returns-in_err-equals : goal.returns-in_err-equals
+returns-in_err-equals c = let q = handed c.from_residual-in_err-equals.ensures in rw q (negate_word c.in_ok-opening.ensures c.in_err-equals.ensures)
 
-pub want-q-requires : goal.want-q-requires
-want-q-requires c = ((wanted-on c.want-o.ensures c.if-o-ne0.false).1, tt)
+pub sides-requires : goal.sides-requires
+sides-requires c = ask-on c.requires c.in_ok-equals.ensures.out.holds.inside
 
-pub returns-then-q-ne0 : goal.returns-then-q-ne0
-returns-then-q-ne0 c = negate_word c.want-o.ensures c.if-o-ne0.false c.want-q.ensures c.if-q-ne0.true c.refuse-then-q-ne0.ensures.0 c.refuse-then-q-ne0.ensures.1
+pub returns-in_err-equal : goal.returns-in_err-equal
+returns-in_err-equal c = let q = handed c.from_residual-in_err-equal.ensures in rw q (negate-sides c.in_ok-opening.ensures c.in_ok-equals.ensures c.in_err-equal.ensures)
 
-pub sides-e-requires : goal.sides-e-requires
-sides-e-requires c = ask-on c.requires (wanted-on c.want-q.ensures c.if-q-ne0.false).1
+pub want-requires-3 : goal.want-requires-3
+want-requires-3 c = ((sides-next (ask-on c.requires c.in_ok-equals.ensures.out.holds.inside) c.in_ok-equal.ensures).inside, tt)
 
-pub returns-then-e-ne0 : goal.returns-then-e-ne0
-returns-then-e-ne0 c = negate-sides c.want-o.ensures c.if-o-ne0.false c.want-q.ensures c.if-q-ne0.false c.sides-e.ensures c.if-e-ne0.true c.refuse-then-e-ne0.ensures.0 c.refuse-then-e-ne0.ensures.1
+pub returns-in_err-inner : goal.returns-in_err-inner
+returns-in_err-inner c = let q = handed c.from_residual-in_err-inner.ensures in rw q (negate-inner c.in_ok-opening.ensures c.in_ok-equals.ensures c.in_ok-equal.ensures c.in_err-inner.ensures)
 
-pub want-i-requires : goal.want-i-requires
-want-i-requires c = ((sides-next (ask-on c.requires (wanted-on c.want-q.ensures c.if-q-ne0.false).1) c.sides-e.ensures c.if-e-ne0.false).inside, tt)
+pub returns-in_err-closing : goal.returns-in_err-closing
+returns-in_err-closing c = let q = handed c.from_residual-in_err-closing.ensures in rw q (negate-close c.in_ok-opening.ensures c.in_ok-equals.ensures c.in_ok-equal.ensures c.in_ok-inner.ensures c.in_err-closing.ensures)
 
-pub returns-then-i-ne0 : goal.returns-then-i-ne0
-returns-then-i-ne0 c = negate-inner c.want-o.ensures c.if-o-ne0.false c.want-q.ensures c.if-q-ne0.false c.sides-e.ensures c.if-e-ne0.false c.want-i.ensures c.if-i-ne0.true c.refuse-then-i-ne0.ensures.0 c.refuse-then-i-ne0.ensures.1
-
-pub want-c-requires : goal.want-c-requires
-want-c-requires c = ((wanted-on c.want-i.ensures c.if-i-ne0.false).1, tt)
-
-pub returns-then-c-ne0 : goal.returns-then-c-ne0
-returns-then-c-ne0 c = negate-close c.want-o.ensures c.if-o-ne0.false c.want-q.ensures c.if-q-ne0.false c.sides-e.ensures c.if-e-ne0.false c.want-i.ensures c.if-i-ne0.false c.want-c.ensures c.if-c-ne0.true c.refuse-then-c-ne0.ensures.0 c.refuse-then-c-ne0.ensures.1
-
-pub note_differ-n-requires : goal.note_differ-n-requires
-note_differ-n-requires c = let r = ask-room (sides-next (ask-on c.requires (wanted-on c.want-q.ensures c.if-q-ne0.false).1) c.sides-e.ensures c.if-e-ne0.false) in let k = r.differs in (r.long, r.fields, omega arith)
+pub note_differ-noted-requires : goal.note_differ-noted-requires
+note_differ-noted-requires c = let r = ask-room (sides-next (ask-on c.requires c.in_ok-equals.ensures.out.holds.inside) c.in_ok-equal.ensures) in let k = r.differs in (r.long, r.fields, omega arith)
 
 pub returns : goal.returns
-returns c = negate_good c.want-o.ensures c.if-o-ne0.false c.want-q.ensures c.if-q-ne0.false c.sides-e.ensures c.if-e-ne0.false c.want-i.ensures c.if-i-ne0.false c.want-c.ensures c.if-c-ne0.false c.note_differ-n.ensures c.finish.ensures
+returns c = negate_good c.in_ok-opening.ensures c.in_ok-equals.ensures c.in_ok-equal.ensures c.in_ok-inner.ensures c.in_ok-closing.ensures _ c.note_differ-noted.ensures c.finish.ensures

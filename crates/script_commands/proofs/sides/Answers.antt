@@ -1,24 +1,22 @@
+use Rattle.script_steps.proofs.Outcomes.{handed}
 use Rattle.script_commands.proofs.Asking.{side-next}
 use Rattle.script_commands.proofs.Making.{sides_first, sides-second, sides-third, sides-good}
 use Rattle.script_commands.proofs.sides.Goals as goal
 
-pub side-l-requires : goal.side-l-requires
-side-l-requires c = c.requires
+pub returns-in_err-left : goal.returns-in_err-left
+returns-in_err-left c = let q = handed c.from_residual.ensures in rw q (sides_first c.in_err-left.ensures)
 
-pub returns-then-l-ne0 : goal.returns-then-l-ne0
-returns-then-l-ne0 c = sides_first c.side-l.ensures c.if-l-ne0.true c.no_pair.ensures.0 c.no_pair.ensures.1
+pub side-requires-2 : goal.side-requires-2
+side-requires-2 c = side-next c.requires c.in_ok-left.ensures
 
-pub side-r-requires : goal.side-r-requires
-side-r-requires c = side-next c.requires c.side-l.ensures c.if-l-ne0.false
+pub returns-in_err-right : goal.returns-in_err-right
+returns-in_err-right c = let q = handed c.from_residual-in_err-right.ensures in rw q (sides-second c.in_ok-left.ensures c.in_err-right.ensures)
 
-pub returns-then-r-ne0 : goal.returns-then-r-ne0
-returns-then-r-ne0 c = sides-second c.side-l.ensures c.if-l-ne0.false c.side-r.ensures c.if-r-ne0.true c.no_pair-then-r-ne0.ensures.0 c.no_pair-then-r-ne0.ensures.1
+pub want-requires : goal.want-requires
+want-requires c = ((side-next (side-next c.requires c.in_ok-left.ensures) c.in_ok-right.ensures).inside, tt)
 
-pub want-c-requires : goal.want-c-requires
-want-c-requires c = ((side-next (side-next c.requires c.side-l.ensures c.if-l-ne0.false) c.side-r.ensures c.if-r-ne0.false).inside, tt)
-
-pub returns-then-c-ne0 : goal.returns-then-c-ne0
-returns-then-c-ne0 c = sides-third c.side-l.ensures c.if-l-ne0.false c.side-r.ensures c.if-r-ne0.false c.want-c.ensures c.if-c-ne0.true c.no_pair-then-c-ne0.ensures.0 c.no_pair-then-c-ne0.ensures.1
+pub returns-in_err-closing : goal.returns-in_err-closing
+returns-in_err-closing c = let q = handed c.from_residual-in_err-closing.ensures in rw q (sides-third c.in_ok-left.ensures c.in_ok-right.ensures c.in_err-closing.ensures)
 
 pub returns : goal.returns
-returns c = sides-good c.side-l.ensures c.if-l-ne0.false c.side-r.ensures c.if-r-ne0.false c.want-c.ensures c.if-c-ne0.false
+returns c = sides-good c.in_ok-left.ensures c.in_ok-right.ensures c.in_ok-closing.ensures

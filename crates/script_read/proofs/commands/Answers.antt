@@ -1,41 +1,34 @@
-use mathlib.Core.Path.{refl, ◌∙◌}
+use borrow.Author.Rules.{rules}
+use mathlib.Core.Path.{◌≡◌, ap}
+use mathlib.Core.Logic.{◌≢◌}
+use Rattle.script_tokens.specs.declared.Kind.TheVariants.{Known}
+use Rattle.script_tokens.specs.Kinds.{number}
+use Rattle.script_tokens.proofs.Apart.{number-apart}
 use native.Mathlib.Omega.{arith}
-use Rattle.script_steps.proofs.Stepping.{wanted-on}
-use Rattle.script_read.proofs.Running.{run-start, run-ask, run-open, run-over, run-leave, run-refused, run_on, run-further}
+use Rattle.script_steps.proofs.Outcomes.{handed}
+use Rattle.script_read.proofs.Running.{run-start, run-ask, run-open, run-stay, run-leave, run-refused, run_on, run-further}
 use Rattle.script_read.proofs.commands.Goals as goal
 
-pub loop-at-init : goal.loop-at-init
-loop-at-init c = (run-start c.requires, refl)
+pub loop-opening-init : goal.loop-opening-init
+loop-opening-init c = run-start c.requires
 
-pub want-o-requires : goal.want-o-requires
-want-o-requires c = (c.loop-at.invariant.0.inside, tt)
+pub returns-in_err-opening : goal.returns-in_err-opening
+returns-in_err-opening c = let q = handed c.from_residual.ensures in rw q (run-open c.loop-opening.invariant c.requires.inside c.in_err-opening.ensures)
 
-pub returns-then-o-ne0 : goal.returns-then-o-ne0
-returns-then-o-ne0 c = run-open c.loop-at.invariant.0 c.requires.inside c.want-o.ensures c.if-o-ne0.true c.refuse.ensures.0 c.refuse.ensures.1
+pub returns-in_err-leave : goal.returns-in_err-leave
+returns-in_err-leave c = let e : c.read_at-x.result.kind ≡ Known 36 = search (rules, c.if-eq.ensures) in let q = handed c.from_residual-in_err-leave.ensures in rw q (run-stay c.loop-opening.invariant c.requires.inside c.in_ok-opening.ensures c.read_at-x.ensures (ap number e) c.in_err-leave.ensures)
 
-pub read_at-x-requires : goal.read_at-x-requires
-read_at-x-requires c = (wanted-on c.want-o.ensures c.if-o-ne0.false).1
+pub returns-then-eq : goal.returns-then-eq
+returns-then-eq c = let e : c.read_at-x.result.kind ≡ Known 36 = search (rules, c.if-eq.ensures) in run-leave c.loop-opening.invariant c.requires.inside c.in_ok-opening.ensures c.read_at-x.ensures (ap number e) c.in_ok-leave.ensures
 
-pub leave-l-requires : goal.leave-l-requires
-leave-l-requires c = c.read_at-x.ensures.inside
+pub command-requires : goal.command-requires
+command-requires c = run-ask c.loop-opening.invariant c.requires.inside c.requires.short c.in_ok-opening.ensures.out.holds.inside
 
-pub returns-then-kind-eq-EXIT : goal.returns-then-kind-eq-EXIT
-returns-then-kind-eq-EXIT c = run-leave c.loop-at.invariant.0 c.requires.inside c.want-o.ensures c.if-o-ne0.false c.read_at-x.ensures c.if-kind-eq-EXIT.true c.leave-l.ensures c.refuse-then-kind-eq-EXIT.ensures.0 c.refuse-then-kind-eq-EXIT.ensures.1 c.refuse-then-kind-eq-EXIT.ensures.2
+pub returns-in_err-done : goal.returns-in_err-done
+returns-in_err-done c = let d : c.read_at-x.result.kind ≢ Known 36 = search (rules, c.if-eq.ensures) in let q = handed c.from_residual-in_err-done.ensures in rw q (run-refused c.loop-opening.invariant c.requires.inside c.in_ok-opening.ensures c.read_at-x.ensures (number-apart d) c.in_err-done.ensures)
 
-pub command-r-requires : goal.command-r-requires
-command-r-requires c = (run-ask c.loop-at.invariant.0 c.requires.inside c.requires.short (wanted-on c.want-o.ensures c.if-o-ne0.false).1, c.requires.order, c.requires.within)
+pub loop-opening-smaller : goal.loop-opening-smaller
+loop-opening-smaller c = let d : c.read_at-x.result.kind ≢ Known 36 = search (rules, c.if-eq.ensures) in let h = run-further c.loop-opening.invariant c.requires.inside c.in_ok-opening.ensures c.read_at-x.ensures (number-apart d) c.in_ok-done.ensures in let a = h.0 in let b = h.1 in omega arith
 
-pub returns-then-r-ne0 : goal.returns-then-r-ne0
-returns-then-r-ne0 c = run-refused c.loop-at.invariant.0 c.requires.inside c.want-o.ensures c.if-o-ne0.false c.read_at-x.ensures c.if-kind-eq-EXIT.false c.command-r.ensures c.if-r-ne0.true
-
-pub loop-at-smaller : goal.loop-at-smaller
-loop-at-smaller c = let a = (wanted-on c.want-o.ensures c.if-o-ne0.false).0 in let b = run-further c.loop-at.invariant.0 c.requires.inside c.want-o.ensures c.if-o-ne0.false c.read_at-x.ensures c.if-kind-eq-EXIT.false c.command-r.ensures c.if-r-ne0.false in omega arith
-
-pub loop-at-preserved : goal.loop-at-preserved
-loop-at-preserved c = (run_on c.loop-at.invariant.0 c.requires.inside c.want-o.ensures c.if-o-ne0.false c.read_at-x.ensures c.if-kind-eq-EXIT.false c.command-r.ensures c.if-r-ne0.false (wanted-on c.want-o.ensures c.if-o-ne0.false).0, c.command-r.auto.work ∙ c.loop-at.invariant.1)
-
-pub want-e-requires : goal.want-e-requires
-want-e-requires c = (c.loop-at.invariant.0.inside, tt)
-
-pub returns : goal.returns
-returns c = run-over c.loop-at.invariant.0 c.requires.inside c.want-e.ensures (omega arith) c.refuse-2.ensures.0 c.refuse-2.ensures.1
+pub loop-opening-preserved : goal.loop-opening-preserved
+loop-opening-preserved c = let d : c.read_at-x.result.kind ≢ Known 36 = search (rules, c.if-eq.ensures) in run_on c.loop-opening.invariant c.requires.inside c.in_ok-opening.ensures c.read_at-x.ensures (number-apart d) c.in_ok-done.ensures

@@ -1,12 +1,10 @@
-use mathlib.Core.Path.{◌≡◌}
 use Prim.Native.Nat.{◌-◌}
 use lib.ListN.{length}
-use lib.Seq.{slice}
 use Rattle.script_read.proofs.Running.{Running}
 use Rattle.script_read.proofs.commands.Given as goal
 
-abbrev pub invariant-loop-at : goal.invariant-loop-at
-invariant-loop-at l = Running l.script (slice l.first l.last l.script) l.work l.seen l.start l.at × (length l.work ≡ length l.initial.work)
+abbrev pub invariant-loop-opening : goal.invariant-loop-opening
+invariant-loop-opening l = Running l.script l.sort l.work l.seen l.start l.at
 
-abbrev pub decreases-loop-at : goal.decreases-loop-at
-decreases-loop-at l = length l.script - l.at
+abbrev pub decreases-loop-opening : goal.decreases-loop-opening
+decreases-loop-opening l = length l.script - l.at

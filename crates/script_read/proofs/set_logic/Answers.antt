@@ -1,28 +1,18 @@
-use native.Mathlib.Omega.{arith}
-use Rattle.script_read.proofs.Opening.{logic-open, logic-word, logic-name, logic-close, logic-behind}
-use Rattle.script_steps.proofs.Stepping.{wanted-on}
+use Rattle.script_steps.proofs.Outcomes.{handed}
+use Rattle.script_read.proofs.Opening.{logic-open, logic-word, logic-name, logic-close, logic-whole}
 use Rattle.script_read.proofs.set_logic.Goals as goal
 
-pub want-o-requires : goal.want-o-requires
-want-o-requires c = (omega arith, tt)
+pub returns-in_err-opening : goal.returns-in_err-opening
+returns-in_err-opening c = let q = handed c.from_residual.ensures in rw q (logic-open c.in_err-opening.ensures)
 
-pub returns-then-o-ne0 : goal.returns-then-o-ne0
-returns-then-o-ne0 c = logic-open c.want-o.ensures c.if-o-ne0.true
+pub returns-in_err-word : goal.returns-in_err-word
+returns-in_err-word c = let q = handed c.from_residual-in_err-word.ensures in rw q (logic-word c.in_ok-opening.ensures c.in_err-word.ensures)
 
-pub want-w-requires : goal.want-w-requires
-want-w-requires c = ((wanted-on c.want-o.ensures c.if-o-ne0.false).1, tt)
+pub returns-in_err-logic : goal.returns-in_err-logic
+returns-in_err-logic c = let q = handed c.from_residual-in_err-logic.ensures in rw q (logic-name c.in_ok-opening.ensures c.in_ok-word.ensures c.in_err-logic.ensures)
 
-pub returns-then-w-ne0 : goal.returns-then-w-ne0
-returns-then-w-ne0 c = logic-word c.want-o.ensures c.if-o-ne0.false c.want-w.ensures c.if-w-ne0.true
-
-pub logic_at-l-requires : goal.logic_at-l-requires
-logic_at-l-requires c = (wanted-on c.want-w.ensures c.if-w-ne0.false).1
-
-pub returns-then-l-ne0 : goal.returns-then-l-ne0
-returns-then-l-ne0 c = logic-name c.want-o.ensures c.if-o-ne0.false c.want-w.ensures c.if-w-ne0.false c.logic_at-l.ensures c.if-l-ne0.true
-
-pub want-requires : goal.want-requires
-want-requires c = (logic-behind c.logic_at-l.ensures c.if-l-ne0.false, tt)
+pub returns-in_err-closing : goal.returns-in_err-closing
+returns-in_err-closing c = let q = handed c.from_residual-in_err-closing.ensures in rw q (logic-close c.in_ok-opening.ensures c.in_ok-word.ensures c.in_ok-logic.ensures c.in_err-closing.ensures)
 
 pub returns : goal.returns
-returns c = logic-close c.want-o.ensures c.if-o-ne0.false c.want-w.ensures c.if-w-ne0.false c.logic_at-l.ensures c.if-l-ne0.false c.want.ensures
+returns c = logic-whole c.in_ok-opening.ensures c.in_ok-word.ensures c.in_ok-logic.ensures c.in_ok-closing.ensures

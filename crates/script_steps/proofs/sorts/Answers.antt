@@ -1,24 +1,24 @@
-use native.Mathlib.Omega.{arith}
-use Rattle.script_steps.proofs.Stepping.{out-passed, sorting_start, sorting-refused, sorting-on, sorting-closed}
+use borrow.Author.Rules.{rules}
+use mathlib.Core.Path.{◌≡◌, ap}
+use mathlib.Core.Logic.{◌≢◌}
+use Rattle.script_tokens.specs.declared.Kind.TheVariants.{Closing}
+use Rattle.script_tokens.specs.Kinds.{number}
+use Rattle.script_tokens.proofs.Apart.{number-apart}
+use Rattle.script_steps.proofs.Outcomes.{handed}
+use Rattle.script_steps.proofs.Stepping.{sorting_start, sorting-refused, sorting-on, sorting-closed}
 use Rattle.script_steps.proofs.sorts.Goals as goal
 
-pub loop-kind-init : goal.loop-kind-init
-loop-kind-init c = sorting_start c.requires.2 c.read_at-x.ensures
+pub loop-x-init : goal.loop-x-init
+loop-x-init c = sorting_start c.read_at-x.result c.requires.0 c.read_at-x.ensures
 
-pub sort_of-r-requires : goal.sort_of-r-requires
-sort_of-r-requires c = (c.requires.0, c.requires.1, c.loop-kind.invariant.token)
+pub sort_of-requires : goal.sort_of-requires
+sort_of-requires c = c.loop-x.invariant.token
 
-pub returns-then-r-ne0 : goal.returns-then-r-ne0
-returns-then-r-ne0 c = sorting-refused c.loop-kind.invariant c.loop-kind-test.true c.sort_of-r.ensures c.if-r-ne0.true
+pub returns-in_err-at : goal.returns-in_err-at
+returns-in_err-at c = let d : c.loop-x.x.kind ≢ Closing = search (rules, c.loop-x-test.ensures) in let q = handed c.from_residual.ensures in rw q (sorting-refused c.loop-x.invariant (number-apart d) c.in_err-at.ensures)
 
-pub read_at-y-requires : goal.read_at-y-requires
-read_at-y-requires c = (out-passed c.sort_of-r.ensures.out c.if-r-ne0.false).1
-
-pub loop-kind-smaller : goal.loop-kind-smaller
-loop-kind-smaller c = let g = out-passed c.sort_of-r.ensures.out c.if-r-ne0.false in let h = g.0 in let i = g.1 in omega arith
-
-pub loop-kind-preserved : goal.loop-kind-preserved
-loop-kind-preserved c = sorting-on c.loop-kind.invariant c.loop-kind-test.true c.sort_of-r.ensures c.if-r-ne0.false c.read_at-y.ensures
+pub loop-x-preserved : goal.loop-x-preserved
+loop-x-preserved c = let d : c.loop-x.x.kind ≢ Closing = search (rules, c.loop-x-test.ensures) in sorting-on c.loop-x.invariant (number-apart d) c.read_at-x-in-loop-x.result c.in_ok-at.ensures c.read_at-x-in-loop-x.ensures
 
 pub returns : goal.returns
-returns c = sorting-closed c.loop-kind.invariant c.loop-kind-test.false
+returns c = let e : c.loop-x.x.kind ≡ Closing = search (rules, c.loop-x-test.ensures) in sorting-closed c.loop-x.invariant (ap number e)

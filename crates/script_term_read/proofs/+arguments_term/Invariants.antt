@@ -8,10 +8,7 @@ abbrev pub decreases-arguments : goal.decreases-arguments
 decreases-arguments l = 2 * (length l.script.now - l.from) + 2
 
 abbrev pub decreases-term : goal.decreases-term
-decreases-term l = 2 * (length l.script.now - l.to) + 1
+decreases-term l = 2 * (length l.script.now - l.x.to) + 1
 
 abbrev pub invariant-arguments-loop-have : goal.invariant-arguments-loop-have
 invariant-arguments-loop-have l = Loop l.script l.fn.work l.fn.counts l.depth l.head l.wants l.from l.work l.seen l.have l.number l.at
-
-abbrev pub decreases-arguments-loop-have : goal.decreases-arguments-loop-have
-decreases-arguments-loop-have l = l.wants - l.have

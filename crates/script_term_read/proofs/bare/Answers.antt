@@ -1,21 +1,24 @@
 use native.Mathlib.Omega.{arith}
+use mathlib.Core.Path.{refl, ap}
+use Rattle.script_tokens.specs.Kinds.{number}
+use Rattle.script_tokens.proofs.Apart.{number-apart}
 use Rattle.script_term_read.proofs.Ways.{bare-ready, bare-14, bare-15, bare-some, bare-16, bare-good}
 use Rattle.script_term_read.proofs.bare.Goals as goal
 
-pub returns-then-kind-ne6 : goal.returns-then-kind-ne6
-returns-then-kind-ne6 c = bare-14 c.requires.0 c.requires.1 _ c.if-kind-ne6.true c.refuse.ensures.0 c.refuse.ensures.1
+pub returns-in_default : goal.returns-in_default
+returns-in_default c = record { told = λ c' x y z. bare-14 c.requires.0 c.requires.1 _ (number-apart c.in_default.not-Name) }
 
-pub look_up-l-requires : goal.look_up-l-requires
-look_up-l-requires c = bare-ready c.requires.0 c.if-kind-ne6.false
+pub look_up-requires : goal.look_up-requires
+look_up-requires c = bare-ready c.requires.0 (ap number c.in-Name.is)
 
-pub returns-then-l-ne0 : goal.returns-then-l-ne0
-returns-then-l-ne0 c = bare-some c.requires.0 c.requires.1 _ c.if-kind-ne6.false c.look_up-l.ensures c.if-l.true c.if-l-ne0.true c.refuse-then-l-ne0.ensures.0 c.refuse-then-l-ne0.ensures.1
+pub returns-in_default-look_up : goal.returns-in_default-look_up
+returns-in_default-look_up c = record { told = λ c' x y z. bare-15 c.requires.0 c.requires.1 _ (ap number c.in-Name.is) c.in_default-look_up.ensures refl }
 
-pub returns-then-depth-gt32 : goal.returns-then-depth-gt32
-returns-then-depth-gt32 c = bare-16 c.requires.0 c.requires.1 _ c.if-kind-ne6.false c.look_up-l.ensures c.if-l.true c.if-l-ne0.false c.if-depth-gt32.true c.refuse-then-depth-gt32.ensures.0 c.refuse-then-depth-gt32.ensures.1
+pub returns-then-symbol-ne0 : goal.returns-then-symbol-ne0
+returns-then-symbol-ne0 c = record { told = λ c' x y z. bare-some c.requires.0 c.requires.1 _ (ap number c.in-Name.is) c.in-Some.ensures refl c.if-symbol-ne0.true }
 
-pub returns-then-l : goal.returns-then-l
-returns-then-l c = bare-good c.requires.0 c.requires.1 _ c.if-kind-ne6.false c.look_up-l.ensures c.if-l.true c.if-l-ne0.false (omega arith)
+pub returns-then-depth-gt-DEEPEST : goal.returns-then-depth-gt-DEEPEST
+returns-then-depth-gt-DEEPEST c = record { told = λ c' x y z. bare-16 c.requires.0 c.requires.1 _ (ap number c.in-Name.is) c.in-Some.ensures refl c.if-symbol-ne0.false c.if-depth-gt-DEEPEST.true }
 
 pub returns : goal.returns
-returns c = bare-15 c.requires.0 c.requires.1 _ c.if-kind-ne6.false c.look_up-l.ensures c.if-l.false c.refuse-2.ensures.0 c.refuse-2.ensures.1
+returns c = record { told = bare-good c.requires.0 c.requires.1 _ (ap number c.in-Name.is) c.in-Some.ensures refl c.if-symbol-ne0.false (omega arith) }

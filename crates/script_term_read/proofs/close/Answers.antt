@@ -1,20 +1,21 @@
+use Rattle.std.proofs.Common.{⊎_elim}
+use mathlib.Core.Path.{ap}
+use Rattle.script_tokens.specs.Kinds.{number}
+use Rattle.script_tokens.proofs.Apart.{number-apart}
 use Rattle.script_term_read.proofs.Ways.{close-14, close-16, close-0, close-15, close-own, close_other}
 use Rattle.script_term_read.proofs.close.Goals as goal
 
-pub returns-then-have-eq0 : goal.returns-then-have-eq0
-returns-then-have-eq0 c = close-14 c.read_at-x.ensures c.if-kind-eq4.true c.if-have-eq0.true c.refuse.ensures.0 c.refuse.ensures.1
+pub returns-in-Closing : goal.returns-in-Closing
+returns-in-Closing c = record { told = λ c' x y z. close-14 c.read_at-x.ensures (ap number c.in-Closing.is) c.if-have-eq0.true }
 
-pub returns-then-fits : goal.returns-then-fits
-returns-then-fits c = close-0 c.read_at-x.ensures c.if-kind-eq4.true c.if-have-eq0.false c.fits.ensures c.if-fits.true
+pub returns-in-Closing-2 : goal.returns-in-Closing-2
+returns-in-Closing-2 c = record { told = λ c' x y z. close-16 c.read_at-x.ensures (ap number c.in-Closing-2.is) c.if-have-eq0.false c.fits.ensures c.if-not-fits.true }
 
-pub returns-then-kind-eq4 : goal.returns-then-kind-eq4
-returns-then-kind-eq4 c = close-16 c.read_at-x.ensures c.if-kind-eq4.true c.if-have-eq0.false c.fits.ensures c.if-fits.false c.refuse-then-kind-eq4.ensures.0 c.refuse-then-kind-eq4.ensures.1
+pub returns-in-Closing-3 : goal.returns-in-Closing-3
+returns-in-Closing-3 c = record { told = close-0 c.read_at-x.ensures (ap number c.in-Closing-3.is) c.if-have-eq0.false c.fits.ensures c.if-not-fits.false }
 
-pub returns-then-kind-eq3 : goal.returns-then-kind-eq3
-returns-then-kind-eq3 c = close-15 c.read_at-x.ensures c.if-kind-eq3.true c.refuse-then-kind-eq3.ensures.0 c.refuse-then-kind-eq3.ensures.1
+pub returns-in-Opening : goal.returns-in-Opening
+returns-in-Opening c = record { told = λ c' x y z. ⊎_elim (λ e. close-15 c.read_at-x.ensures (ap number e)) (λ e. close-own c.read_at-x.ensures (ap number e)) c.in-Opening.is }
 
-pub returns-then-kind-eq6 : goal.returns-then-kind-eq6
-returns-then-kind-eq6 c = close-own c.read_at-x.ensures c.if-kind-eq6.true c.refuse-then-kind-eq6.ensures.0 c.refuse-then-kind-eq6.ensures.1
-
-pub returns : goal.returns
-returns c = close_other c.read_at-x.ensures c.if-kind-eq4.false c.if-kind-eq3.false c.if-kind-eq6.false c.refuse-2.ensures.0 c.refuse-2.ensures.1
+pub returns-in_default : goal.returns-in_default
+returns-in_default c = record { told = λ c' x y z. close_other c.read_at-x.ensures (number-apart c.in_default.not-Closing) (number-apart c.in_default.not-Opening) (number-apart c.in_default.not-Name) }

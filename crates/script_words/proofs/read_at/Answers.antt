@@ -1,15 +1,22 @@
+use borrow.Author.Rules.{rules}
 use native.Mathlib.Omega.{arith}
-use Rattle.script_words.proofs.Reading.{read_plain, read_word, word-order}
+use mathlib.Core.Path.{ap}
+use Rattle.script_tokens.specs.Kinds.{number}
+use Rattle.script_tokens.proofs.Apart.{number-apart}
+use Rattle.script_words.proofs.Reading.{read_plain, read_word, word-order, word-some}
 use Rattle.script_words.proofs.read_at.Goals as goal
 
-pub returns-then-x-ne6 : goal.returns-then-x-ne6
-returns-then-x-ne6 c = read_plain c.lex_at-x.ensures c.if-x-ne6.true
+pub slice_bounds-kind_of-count : goal.slice_bounds-kind_of-count
+slice_bounds-kind_of-count c = let h = word-order c.lex_at-x.ensures (ap number c.in-Name.is) in omega arith
 
-pub word_of-k-requires : goal.word_of-k-requires
-word_of-k-requires c = let h = word-order c.lex_at-x.ensures c.if-x-ne6.false in (omega arith, c.lex_at-x.ensures.inside)
+pub slice_bounds-kind_of-start : goal.slice_bounds-kind_of-start
+slice_bounds-kind_of-start c = let h = word-order c.lex_at-x.ensures (ap number c.in-Name.is) in search rules
 
-pub bounds-script-from : goal.bounds-script-from
-bounds-script-from c = let h = word-order c.lex_at-x.ensures c.if-x-ne6.false in let i = c.lex_at-x.ensures.inside in omega arith
+pub kind_of-kind-requires : goal.kind_of-kind-requires
+kind_of-kind-requires c = word-some c.lex_at-x.ensures (ap number c.in-Name.is)
 
-pub returns : goal.returns
-returns c = read_word c.lex_at-x.ensures c.if-x-ne6.false c.word_of-k.ensures c.kind_of-kind.ensures
+pub returns-in-Name : goal.returns-in-Name
+returns-in-Name c = read_word c.lex_at-x.ensures (ap number c.in-Name.is) c.kind_of-kind.ensures
+
+pub returns-in_default : goal.returns-in_default
+returns-in_default c = read_plain c.lex_at-x.ensures (number-apart c.in_default.not-Name)

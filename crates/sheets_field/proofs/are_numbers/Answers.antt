@@ -12,23 +12,23 @@ use Rattle.report_numbers.proofs.Listing.{list-held-none, list-held-more, list-h
 use Rattle.sheets_field.proofs.are_numbers.Goals as goal
 
 pub loop-i-init : goal.loop-i-init
-loop-i-init c = let a = c.args in (omega arith, list-held-none a.report.now a.at (sheet_of a.work.now))
+loop-i-init c = let a = c.args in list-held-none a.report.now a.at (sheet_of a.work.now)
 
 pub loop-i-preserved : goal.loop-i-preserved
 loop-i-preserved c =
     let a = c.args in
     let l = c.loop-i in
-    (search rules, list-held-more a.report.now a.at (sheet_of a.work.now) l.i l.invariant.1 (c.is_sheet.ensures.0 c.if-is_sheet.true))
-
-pub returns-else-is_sheet : goal.returns-else-is_sheet
-returns-else-is_sheet c =
-    let a = c.args in
-    let l = c.loop-i in
-    is-not (λ h. true-or-false (c.is_sheet.ensures.1 (list-held-at a.report.now a.at (sheet_of a.work.now) a.count l.i c.loop-i-test.true h)) c.if-is_sheet.false)
+    list-held-more a.report.now a.at (sheet_of a.work.now) l.i l.invariant (c.is_sheet.ensures.0 c.if-not-is_sheet.false)
 
 pub returns : goal.returns
 returns c =
     let a = c.args in
     let l = c.loop-i in
-    let e : l.i ≡ a.count = omega (arith, l.invariant.0, c.loop-i-test.false) in
-    (λ t. subst (λ (n : ℕ). Holds a.report.now a.at (numbers (sheets_in n a.work.now))) e l.invariant.1, λ h. refl)
+    let e : l.i ≡ a.count = omega arith in
+    (λ t. subst (λ (n : ℕ). Holds a.report.now a.at (numbers (sheets_in n a.work.now))) e l.invariant, λ h. refl)
+
+pub returns-then-not-is_sheet : goal.returns-then-not-is_sheet
+returns-then-not-is_sheet c =
+    let a = c.args in
+    let l = c.loop-i in
+    is-not (λ h. true-or-false (c.is_sheet.ensures.1 (list-held-at a.report.now a.at (sheet_of a.work.now) a.count l.i (omega arith) h)) c.if-not-is_sheet.true)

@@ -7,7 +7,4 @@ use Rattle.report_read.specs.Read.{Holds}
 use Rattle.sheets_field.proofs.are_numbers.Given as goal
 
 abbrev pub invariant-loop-i : goal.invariant-loop-i
-invariant-loop-i l = (l.i ≤ l.count) × Holds l.report l.at (numbers (sheets_in l.i l.work))
-
-abbrev pub decreases-loop-i : goal.decreases-loop-i
-decreases-loop-i l = l.count - l.i
+invariant-loop-i l = Holds l.report l.at (numbers (sheets_in l.i l.work))

@@ -24,5 +24,5 @@ overflow_add-result-then-is_field c = omega (arith, holds-room c.args.report.now
 pub returns-then-is_field : goal.returns-then-is_field
 returns-then-is_field c = seen-right c.find_sheets-c.ensures (c.is_field.ensures.0 c.if-is_field.true) refl
 
-pub returns : goal.returns
-returns c = seen-wrong c.find_sheets-c.ensures (λ h. true-or-false (c.is_field.ensures.1 h) c.if-is_field.false) refl
+pub returns-else-is_field : goal.returns-else-is_field
+returns-else-is_field c = seen-wrong c.find_sheets-c.ensures (λ h. true-or-false (c.is_field.ensures.1 h) c.if-is_field.false)

@@ -11,18 +11,12 @@ use Rattle.sheets_field.proofs.write_numbers.Goals as goal
 
 pub loop-i-init : goal.loop-i-init
 unfolding numbers
-loop-i-init c = (omega arith, refl, sym (laid_none c.args.at c.args.room.now))
+loop-i-init c = (refl, sym (laid_none c.args.at c.args.room.now))
 
 pub put_sheet-requires : goal.put_sheet-requires
-put_sheet-requires c = (omega (arith, c.requires), omega (arith, c.requires), omega (arith, c.requires, c.loop-i.invariant.1))
+put_sheet-requires c = (omega (arith, c.requires), omega (arith, c.requires), omega (arith, c.requires, c.loop-i.invariant.0))
 
 pub loop-i-preserved : goal.loop-i-preserved
 loop-i-preserved c =
     let l = c.loop-i in
-    (omega (arith, l.invariant.0), c.put_sheet.auto.room ∙ l.invariant.1, list-laid (sheet_of c.args.work.now) c.args.at l.i c.args.room.now l.room c.put_sheet.new.room (omega (arith, c.requires)) l.invariant.2 c.put_sheet.ensures)
-
-pub returns : goal.returns
-returns c =
-    let l = c.loop-i in
-    let e : l.i ≡ c.args.count = omega (arith, l.invariant.0) in
-    l.invariant.2 ∙ ap (λ (n : ℕ). laid c.args.at (numbers (sheets_in n c.args.work.now)) c.args.room.now) e
+    (c.put_sheet.auto.room ∙ l.invariant.0, list-laid (sheet_of c.args.work.now) c.args.at l.i c.args.room.now l.room c.put_sheet.new.room (omega (arith, c.requires)) l.invariant.1 c.put_sheet.ensures)

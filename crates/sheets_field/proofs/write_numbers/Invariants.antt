@@ -8,7 +8,4 @@ use Rattle.report.specs.Report.{numbers, laid}
 use Rattle.sheets_field.proofs.write_numbers.Given as goal
 
 abbrev pub invariant-loop-i : goal.invariant-loop-i
-invariant-loop-i l = (l.i ≤ l.count) × (length l.room ≡ length l.initial.room) × (l.room ≡ laid l.at (numbers (sheets_in l.i l.work)) l.initial.room)
-
-abbrev pub decreases-loop-i : goal.decreases-loop-i
-decreases-loop-i l = l.count - l.i
+invariant-loop-i l = (length l.room ≡ length l.initial.room) × (l.room ≡ laid l.at (numbers (sheets_in l.i l.work)) l.initial.room)

@@ -11,7 +11,7 @@ pub advance-done-requires : goal.advance-done-requires
 advance-done-requires c = c.requires.0
 
 pub returns-then-done-limit : goal.returns-then-done-limit
-returns-then-done-limit c = told-spent c.requires.0 c.requires.1 c.advance-done.ensures c.args.limit c.args.watch c.most_passes-most.ensures (omega arith)
+returns-then-done-limit c = rw c.of.ensures (told-spent c.requires.0 c.requires.1 c.advance-done.ensures c.args.limit c.args.watch c.most_passes-most.ensures (omega arith))
 
 pub lay_leaders-requires : goal.lay_leaders-requires
 lay_leaders-requires c = (seating-of c.requires.0 c.requires.1 c.advance-done.ensures, c.requires.2)

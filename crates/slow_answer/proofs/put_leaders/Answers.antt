@@ -11,20 +11,14 @@ use Rattle.slow_answer.proofs.put_leaders.Goals as goal
 
 pub loop-i-init : goal.loop-i-init
 unfolding numbers
-loop-i-init c = (omega arith, refl, sym (laid_none 0 c.args.room.now))
+loop-i-init c = (refl, sym (laid_none 0 c.args.room.now))
 
 pub put_leader-requires : goal.put_leader-requires
 put_leader-requires c =
     let l = c.loop-i in
-    (c.requires.0.long, omega (arith, c.requires.0.few), c.requires.0.low l.i c.loop-i-test.true, omega (arith, c.requires.1, l.invariant.1))
+    (c.requires.0.long, omega (arith, c.requires.0.few), c.requires.0.low l.i (omega arith), omega (arith, c.requires.1, l.invariant.0))
 
 pub loop-i-preserved : goal.loop-i-preserved
 loop-i-preserved c =
     let l = c.loop-i in
-    (omega arith, c.put_leader.auto.room ∙ l.invariant.1, list-laid (leader_in c.args.work.now) 0 l.i c.args.room.now l.room c.put_leader.new.room (omega (arith, c.requires.1, l.invariant.0)) l.invariant.2 c.put_leader.ensures)
-
-pub returns : goal.returns
-returns c =
-    let l = c.loop-i in
-    let e : l.i ≡ c.args.size = omega (arith, l.invariant.0) in
-    l.invariant.2 ∙ ap (λ (n : ℕ). laid 0 (numbers (gather (leader_in c.args.work.now) n)) c.args.room.now) e
+    (c.put_leader.auto.room ∙ l.invariant.0, list-laid (leader_in c.args.work.now) 0 l.i c.args.room.now l.room c.put_leader.new.room (omega (arith, c.requires.1)) l.invariant.1 c.put_leader.ensures)

@@ -8,7 +8,4 @@ use Rattle.report.specs.Report.{numbers, laid}
 use Rattle.slow_answer.proofs.put_leaders.Given as goal
 
 abbrev pub invariant-loop-i : goal.invariant-loop-i
-invariant-loop-i l = (l.i ≤ l.size) × (length l.room ≡ length l.initial.room) × (l.room ≡ laid 0 (numbers (gather (leader_in l.work) l.i)) l.initial.room)
-
-abbrev pub decreases-loop-i : goal.decreases-loop-i
-decreases-loop-i l = l.size - l.i
+invariant-loop-i l = (length l.room ≡ length l.initial.room) × (l.room ≡ laid 0 (numbers (gather (leader_in l.work) l.i)) l.initial.room)

@@ -5,7 +5,7 @@ use Rattle.slow_rest.proofs.Counting.{rested-counted}
 use Rattle.slow_call.proofs.passes.Goals as goal
 
 pub count_rest-requires : goal.count_rest-requires
-count_rest-requires c = received-begun c.receive-s.ensures
+count_rest-requires c = received-begun c.receive-looked.ensures
 
 pub returns : goal.returns
-returns c = rested-counted c.args.job.now c.args.room.now c.args.records.now c.args.work.now c.args.limit c.args.watch c.receive-s.result c.receive-s.new.records c.receive-s.new.work c.receive-s.ensures _ _ _ _ _ c.count_rest.ensures
+returns c = rested-counted c.args.job.now c.args.room.now c.args.records.now c.args.work.now c.args.limit c.args.watch _ c.receive-looked.new.records c.receive-looked.new.work c.receive-looked.ensures _ _ _ _ _ c.count_rest.ensures

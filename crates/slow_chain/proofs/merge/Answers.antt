@@ -7,9 +7,6 @@ use Rattle.table.specs.Places.{SAVED}
 use Rattle.slow_chain.proofs.Views.{new-labelled}
 use Rattle.slow_chain.proofs.merge.Goals as goal
 
-pub overflow_add-size : goal.overflow_add-size
-overflow_add-size c = record { fits = omega (arith, c.requires.1) }
-
 pub returns : goal.returns
 returns c =
     let z : SAVED.at + c.args.size - SAVED.at ≡ c.args.size = omega arith in

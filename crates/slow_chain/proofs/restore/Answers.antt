@@ -1,8 +1,14 @@
--- `restore` meets its contract. The part that is lent holds the labels and what is saved of them.
+-- `restore` meets its contract: one region is copied to another.
 -- Assumes nothing.
-use mathlib.Core.Path.{refl}
-use Rattle.slow_chain.proofs.Views.{restored}
+use Rattle.std.proofs.Common.{refl}
+use Rattle.table.specs.Places.{LABEL, SAVED}
+use Rattle.slow_chain.proofs.Views.{copied-frame, copied-seen}
 use Rattle.slow_chain.proofs.restore.Goals as goal
 
 pub returns : goal.returns
-returns c = restored c.args.work.now _ c.lower.new.part c.requires c.lower.auto.part refl c.lower.ensures
+returns c =
+    let e = c.copy_within.ensures in
+    record {
+      frame = copied-frame _ _ SAVED LABEL refl refl e.len e.by_index.0 e.by_index.1 e.by_index.2;
+      labels = copied-seen _ _ SAVED LABEL refl refl e.len e.by_index.0 e.by_index.1 e.by_index.2;
+    }

@@ -7,6 +7,3 @@ use Rattle.slow_close.proofs.advance.Given as goal
 
 abbrev pub invariant-loop-done : goal.invariant-loop-done
 invariant-loop-done l = Loaded l.size l.len l.initial.work × Between l.size l.len l.most l.initial.work l.work l.done
-
-abbrev pub decreases-loop-done : goal.decreases-loop-done
-decreases-loop-done l = l.most - l.done

@@ -6,7 +6,4 @@ use Rattle.slow_close.specs.Closing.{pass_part, Turning}
 use Rattle.slow_close.proofs.pass.Given as goal
 
 abbrev pub invariant-loop-i : goal.invariant-loop-i
-invariant-loop-i l = (l.i ≤ l.n) × Within pass_part l.initial.work l.work × Turning l.round.size l.round.len l.round.done l.work l.i l.joined
-
-abbrev pub decreases-loop-i : goal.decreases-loop-i
-decreases-loop-i l = l.n - l.i
+invariant-loop-i l = Within pass_part l.initial.work l.work × Turning l.round.size l.round.len l.round.done l.work l.i l.joined

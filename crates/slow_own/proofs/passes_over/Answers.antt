@@ -6,10 +6,10 @@ use Rattle.slow_rest.proofs.Counting.{rested-counted}
 use Rattle.slow_own.proofs.passes_over.Goals as goal
 
 pub count_rest-requires : goal.count_rest-requires
-count_rest-requires c = received-begun c.receive_over-s.ensures.received
+count_rest-requires c = received-begun c.receive_over-looked.ensures.received
 
 pub returns : goal.returns
 returns c =
-    let o = c.receive_over-s in
+    let o = c.receive_over-looked in
     let f = c.count_rest in
     record { records = o.ensures.records; counted = rested-counted c.args.job.now c.args.room.now _ c.args.work.now c.args.limit c.args.watch _ _ _ o.ensures.received _ _ _ _ _ f.ensures; room_kept = f.auto.room; work_kept = f.auto.work ∙ o.auto.work }

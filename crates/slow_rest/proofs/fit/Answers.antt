@@ -1,11 +1,17 @@
--- `fit` meets its contract: it compares.
+-- `fit` meets its contract: a refusal has no tags, and else it compares.
 -- Assumes nothing.
 use native.Mathlib.Omega.{arith}
+use Rattle.std.proofs.lemmas.Result.{err_from_is_err_and}
 use Rattle.slow_rest.specs.Rest as r
 use Rattle.slow_rest.proofs.fit.Goals as goal
 
-pub returns-then-room-s : goal.returns-then-room-s
-returns-then-room-s c = r.cramped (omega (arith, c.if-room-s.true))
+pub returns-in_err-sight : goal.returns-in_err-sight
+returns-in_err-sight c =
+    let p = err_from_is_err_and c.from_residual.result c.from_residual.ensures.1 in
+    rw (p.1, p.2, c.in_err-sight.was) (r.roomy (omega arith))
+
+pub returns-then-room-sight : goal.returns-then-room-sight
+returns-then-room-sight c = rw (c.of.ensures, c.in_ok-sight.was) (r.cramped (omega (arith, c.if-room-sight.true)))
 
 pub returns : goal.returns
-returns c = r.roomy (omega (arith, c.if-room-s.false))
+returns c = rw c.in_ok-sight.was (r.roomy (omega (arith, c.if-room-sight.false)))

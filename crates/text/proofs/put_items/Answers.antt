@@ -14,16 +14,13 @@ use Rattle.text_line.proofs.Puts.{put-place, put-length, half-none, half-as}
 use Rattle.text_line.specs.Put.{Put}
 use Rattle.text_field.specs.Fields.{text_at, width_at}
 use mathlib.Core.Bool.{Bool}
-use Rattle.text.proofs.Walking.{edition-read, underway, walk-on, walk-done}
+use Rattle.text.proofs.Walking.{edition-read, underway, walk-on}
 use Rattle.text.proofs.put_items.Goals as goal
 
 pub loop-at-init : goal.loop-at-init
 loop-at-init c =
     let is : items_in c.args.job.now ≡ c.requires.items = rw c.requires.reads in
     (zero-le, zero-le, refl, underway {N = c.requires.head.size} {items = c.requires.items} (rw c.behind-at.ensures (accepted-stands _ _ _ c.requires.reads).stands) (half-as (rw is) (half-none _ _ 0 zero-le)))
-
-pub loop-at-smaller : goal.loop-at-smaller
-loop-at-smaller c = omega (arith, c.behind-at-in-loop-at.ensures, c.loop-at-test.true)
 
 pub loop-at-preserved : goal.loop-at-preserved
 loop-at-preserved c =
@@ -44,6 +41,3 @@ loop-at-preserved c =
       put-length p ∙ head.invariant.2,
       rw (es, ep) (walk-on v job report _ _ at from _ _ _ _ head.invariant.3 c.loop-at-test.true p),
     )
-
-pub returns : goal.returns
-returns c = walk-done _ _ _ _ _ _ _ _ _ c.loop-at.invariant.3 c.loop-at-test.false

@@ -1,17 +1,14 @@
 -- `text::tell_answer` meets its contract. Each arm tells the text that the definition gives for the number; a length past the room's end takes all of
 -- the room, as `take` does.
 -- Assumes nothing.
-use mathlib.Core.Path.{◌≡◌, sym}
+use mathlib.Core.Path.{◌≡◌}
 use mathlib.Core.List.{List}
 use Prim.Native.Nat.{ℕ}
 use native.Mathlib.Omega.{arith}
 use lib.ListN.{take}
-use lib.Seq.{length-take-le, take_all}
+use lib.Seq.{take_all}
 use Rattle.text.proofs.Telling.{answered-report, answered-refusal}
 use Rattle.text.proofs.tell_answer.Goals as goal
-
-pub slice_bounds-tell_report-end : goal.slice_bounds-tell_report-end
-slice_bounds-tell_report-end c = sym (length-take-le _ _ c.if-size-room.true)
 
 pub returns-then-size-room : goal.returns-then-size-room
 returns-then-size-room c = answered-report c.args.job.now c.args.room.now c.args.number c.args.place c.args.size c.if-number-eq0.true (λ k. (c.type_inv.room k).fits) c.tell_report.ensures

@@ -15,8 +15,8 @@ pub returns : goal.returns
 returns c =
     let a = c.args in
     let report : List ℕ = a.report.now in
-    let from : ℕ = c.part_start-from.result in
+    let from : ℕ = c.min-from.result in
     let stop : ℕ = c.width-stop.result in
     let ns : List ℕ = numbers_in (body_of report) in
-    let is : parted (numbers_in (slice from stop report)) ≡ parted ns = rw (part_slice report 3 from stop c.width-stop.ensures c.part_start-from.ensures) in
+    let is : parted (numbers_in (slice from stop report)) ≡ parted ns = rw (part_slice report 3 from stop c.width-stop.ensures c.min-from.ensures) in
     put_ended (a.s ∷ a.t ∷ ns) (put-more (a.s ∷ a.t ∷ []) ns c.open_line-next.ensures (put_as is c.put_numbers-last.ensures)) c.put.ensures

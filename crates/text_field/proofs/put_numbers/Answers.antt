@@ -18,7 +18,7 @@ loop-p-preserved c =
     let report : List ℕ = c.args.report.now in
     let p : ℕ = c.loop-p.p in
     let stop : ℕ = c.args.stop in
-    let e = ap (λ (n : ℕ). parted (n ∷ [])) (c.wide.ensures ∙ c.number.ensures) in (
+    let e = ap (λ (n : ℕ). parted (n ∷ [])) (c.from.ensures ∙ c.number.ensures) in (
       omega (arith, c.loop-p-test.true),
       half-more (half-as (numbers-next report p stop (omega (arith, c.loop-p-test.true)) c.requires.stop_in_bounds) c.loop-p.invariant.1)
           (put_as e c.put_parted-next.ensures),

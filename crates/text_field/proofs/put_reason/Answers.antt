@@ -15,12 +15,12 @@ use Rattle.text_field.proofs.put_reason.Goals as goal
 pub returns : goal.returns
 returns c =
     let report : List ℕ = c.args.report.now in
-    let from : ℕ = c.part_start-from.result in
+    let from : ℕ = c.min-from.result in
     let stop : ℕ = c.width-stop.result in
     let ns : List ℕ = numbers_in (body_of report) in
     let k : ℕ = (stop - from) / 2 in
-    let is : parted (numbers_in (slice from stop report)) ≡ parted ns = rw (part_slice report 3 from stop c.width-stop.ensures c.part_start-from.ensures) in
-    let many : parted (k ∷ []) ≡ parted (length ns ∷ []) = rw (length_part report 3 from stop c.width-stop.ensures c.part_start-from.ensures) in
+    let is : parted (numbers_in (slice from stop report)) ≡ parted ns = rw (part_slice report 3 from stop c.width-stop.ensures c.min-from.ensures) in
+    let many : parted (k ∷ []) ≡ parted (length ns ∷ []) = rw (length_part report 3 from stop c.width-stop.ensures c.min-from.ensures) in
     put_ended (c.args.s ∷ c.args.t ∷ length ns ∷ ns)
     (put-more (c.args.s ∷ c.args.t ∷ length ns ∷ []) ns
     (put-more (c.args.s ∷ c.args.t ∷ []) (length ns ∷ []) c.open_line-next.ensures (put_as many c.put_parted-third.ensures))

@@ -16,11 +16,11 @@ pub returns : goal.returns
 unfolding sheets_line
 returns c =
     let report : List ℕ = c.args.report.now in
-    let from : ℕ = c.part_start-from.result in
+    let from : ℕ = c.min-from.result in
     let stop : ℕ = c.width-stop.result in
     let ns : List ℕ = numbers_in (body_of report) in
-    let is : parted (numbers_in (slice from stop report)) ≡ parted ns = rw (part_slice report 3 from stop c.width-stop.ensures c.part_start-from.ensures) in
-    let many : (stop - from) / 2 ≡ length ns = length_part report 3 from stop c.width-stop.ensures c.part_start-from.ensures in
+    let is : parted (numbers_in (slice from stop report)) ≡ parted ns = rw (part_slice report 3 from stop c.width-stop.ensures c.min-from.ensures) in
+    let many : (stop - from) / 2 ≡ length ns = length_part report 3 from stop c.width-stop.ensures c.min-from.ensures in
     put_ended (length ns ∷ ns)
     (put-more (length ns ∷ []) ns (put_then c.put-next.ensures (rw many at c.put_parted-second.ensures)) (put_as is c.put_numbers-last.ensures))
     c.put.ensures

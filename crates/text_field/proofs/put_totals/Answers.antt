@@ -11,6 +11,6 @@ use Rattle.text_field.proofs.put_totals.Goals as goal
 pub returns : goal.returns
 unfolding totals_line
 returns c =
-    let first = c.wide.ensures ∙ c.number.ensures in
-    let second = c.wide-2.ensures ∙ c.number-2.ensures in
+    let first = c.from.ensures ∙ c.number.ensures in
+    let second = c.from-2.ensures ∙ c.number-2.ensures in
     put_as (ap₂ (λ (a b : ℕ). line 84 (a ∷ b ∷ [])) first second) c.put_pair.ensures
