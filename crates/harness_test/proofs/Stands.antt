@@ -35,7 +35,7 @@ use Rattle.std.specs.Prelude.{Result, Ok, Err}
 use Rattle.answer_ask.specs.Right as right
 use Rattle.answer_ask.specs.Right.{RightAt}
 use Rattle.answer_ask.proofs.Right.{found}
-use Rattle.judge_sheets.specs.Behind.{Behind, Filing, stood, missing, Sheeted}
+use Rattle.judge_sheets.specs.Behind.{Behind, Filing, stood, missing, Turned}
 use Rattle.judge_explain.specs.Right.{Explaining, Explained}
 use Rattle.judge_broken.specs.Checked.{Checked}
 use Rattle.judge_sheets.specs.Passing.{PassedAt, to, astray, wrong}
@@ -148,8 +148,8 @@ module _ {job report w : List ℕ} {at front n : ℕ} {f : List ℕ} (G : Ground
   count = length-gather (list_of w) n
 
   -- Where its field is found, its sheets can be looked for, ..
-  pub behind-there : {end : ℕ} → RightAt (IsField f) report at (Ok end) → Behind job report w (at + front) end
-  behind-there {end} r = go r refl
+  pub behind-there : {found : Result ℕ ℕ} → RightAt (IsField f) report at found → (end : ℕ) → found ≡ Ok end → Behind job report w (at + front) end
+  behind-there r end = go r
     where
       go : {p : Result ℕ ℕ} → RightAt (IsField f) report at p → p ≡ Ok end → Behind job report w (at + front) end
       go (right.to {f = g} {p = p} i h x) z =
@@ -169,36 +169,25 @@ module _ {job report w : List ℕ} {at front n : ℕ} {f : List ℕ} (G : Ground
           }
       go (right.wrong x i) z = let y : ◌≡◌ {A = ℕ} 0 1 = cc in absurd (omega arith)
 
-  -- .. and with them or without the place is told.
-  pub reason-passed : {b : Moment} {q : Question} {w' : List ℕ} {end : ℕ} {answer : Result ℕ ℕ} → HarnessReasoned (matter_in job) b q (list_in n w) f → RightAt (IsField f) report at (Ok end) → Sheeted job report w w' (at + front) end answer → PassedAt harness_rules (matter_in job) b q report at answer
-  reason-passed {b} {q} {w'} {end} {answer} r s t = found-at s refl
+  -- .. and with them or without the place is told; where it is not, no right field stands there.
+  pub reason-passed : {b : Moment} {q : Question} {w' : List ℕ} {found answer : Result ℕ ℕ} → HarnessReasoned (matter_in job) b q (list_in n w) f → RightAt (IsField f) report at found → Turned job report w w' (at + front) found answer → PassedAt harness_rules (matter_in job) b q report at answer
+  reason-passed {b} {q} {w'} {answer = answer} r s t = found-at s t
     where
-      go : {answer : Result ℕ ℕ} → Filing job report (list_in n w) end answer → Holds report at f → end ≡ at + length f → PassedAt harness_rules (matter_in job) b q report at answer
+      go : {end : ℕ} {answer : Result ℕ ℕ} → Filing job report (list_in n w) end answer → Holds report at f → end ≡ at + length f → PassedAt harness_rules (matter_in job) b q report at answer
       go (stood {g = k} {p = e} y z i) h x = to {p = e} (reasoned r y) (holds-both report at f k h (subst (λ (m : ℕ). Holds report m k) x z)) (omega (arith, length-append f k))
       go (missing {p = e} y i) h x = astray {p = e} r h (i ∙ x) (subst (λ (m : ℕ). Stands (Filed (matter_in job) (list_in n w)) (drop m report) → ⊥) (sym i) y)
 
-      found-at : {a : Result ℕ ℕ} → RightAt (IsField f) report at a → a ≡ Ok end → PassedAt harness_rules (matter_in job) b q report at answer
-      found-at (right.to {f = g} {p = p} i h x) z =
-          let o : p ≡ end = cc in
-          let h' : Holds report at f = rw i at h in
-          let l : length g ≡ length f = ap length i in
-          go (t.right (list_in n w) (omega (arith, G.size, count)) (G.body h')) h' (omega arith)
-      found-at (right.wrong x i) z = let y : ◌≡◌ {A = ℕ} 0 1 = cc in absurd (omega arith)
-
-  -- Where it is not, no right field stands there.
-  pub reason-missing : {b : Moment} {q : Question} {v : ℕ} → HarnessReasoned (matter_in job) b q (list_in n w) f → RightAt (IsField f) report at (Err v) → PassedAt harness_rules (matter_in job) b q report at (Err v)
-  reason-missing {b} {q} {v} r s = go s refl
-    where
       front_of : {bs : List ℕ} → Stands (HarnessAnswers (matter_in job) b q) bs → Stands (IsField f) bs
       front_of (stands {f = g} a rest) =
           let o = reason-only r a in
           stands-in f (o.0 ++ rest) refl (sym (append_assoc f o.0 rest) ∙ ap (λ (l : List ℕ). l ++ rest) (sym o.2))
 
-      go : {a : Result ℕ ℕ} → RightAt (IsField f) report at a → a ≡ Err v → PassedAt harness_rules (matter_in job) b q report at (Err v)
-      go (right.to x h i) z = let y : ◌≡◌ {A = ℕ} 0 1 = cc in absurd (omega arith)
-      go (right.wrong {p = v'} x i) z =
-          let o : v' ≡ v = cc in
-          wrong (λ s. x (front_of s)) (λ L s. x (stands-map (λ g k. (harness-reasoned-one k r).1) s)) (sym o ∙ i)
+      found-at : {a : Result ℕ ℕ} → RightAt (IsField f) report at a → Turned job report w w' (at + front) a answer → PassedAt harness_rules (matter_in job) b q report at answer
+      found-at (right.to {f = g} {p = p} i h x) t =
+          let h' : Holds report at f = rw i at h in
+          let l : length g ≡ length f = ap length i in
+          go (t.some p refl (list_in n w) (omega (arith, G.size, count)) (G.body h')) h' (omega arith)
+      found-at (right.wrong {p = p} x i) t = rw (t.none p refl) (wrong (λ s. x (front_of s)) (λ L s. x (stands-map (λ g k. (harness-reasoned-one k r).1) s)) i)
 
 -- A reason that stands in the list has as many numbers as are told, and they are few.
 pub list-few : {N : ℕ} {rs : List Rec} {R s t : ℕ} (n : ℕ) (w : List ℕ) → N ≤ most_tags → Harness N rs R s t (list_in n w) → n ≤ most_waiting
@@ -226,11 +215,8 @@ module _ {job w : List ℕ} {q : moment.Question} (E : Explaining job w q) where
     }
 
     module _ (n : ℕ) (w₁ : List ℕ) (g : Large w₁) (r : Harness q.size (records_in q.len w) q.before q.s.0 q.t.0 (list_in n w₁)) where
-      pub because-explained : {w₂ : List ℕ} {end : ℕ} {answer : Result ℕ ℕ} → Within scratch w w₁ → RightAt (IsField (field 132 (numbers (list_in n w₁)))) report at (Ok end) → Sheeted job report w₁ w₂ (at + 3) end answer → Explained harness_rules job report w w₂ at q answer
+      pub because-explained : {w₂ : List ℕ} {found answer : Result ℕ ℕ} → Within scratch w w₁ → RightAt (IsField (field 132 (numbers (list_in n w₁)))) report at found → Turned job report w₁ w₂ (at + 3) found answer → Explained harness_rules job report w w₂ at q answer
       because-explained k x t = record { kept = within-trans k t.kept; right = λ b e. reason-passed (explain-grounded n w₁ g r) (harness-because-known (known b e) r) x t }
-
-      pub missing-explained : {v : ℕ} → Within scratch w w₁ → RightAt (IsField (field 132 (numbers (list_in n w₁)))) report at (Err v) → Explained harness_rules job report w w₁ at q (Err v)
-      missing-explained k x = record { kept = k; right = λ b e. reason-missing (explain-grounded n w₁ g r) (harness-because-known (known b e) r) x }
 
     pub apart-explained : {w₁ : List ℕ} {answer : Result ℕ ℕ} → (Follows (UpTo (records_in q.len w) q.before) q.s.0 q.t.0 → ⊥) → Within scratch w w₁ → RightAt (IsField (field 133 [])) report at answer → Explained harness_rules job report w w₁ at q answer
     apart-explained n k x = record { kept = k; right = λ b e. lone-passed (harness-apart-known (known b e) n) (λ L g r. none_apart (rw ((known b e).records, e) n) r) x }
@@ -250,11 +236,8 @@ module _ {job w report : List ℕ} {H : Head} {len joins before s t at : ℕ} (B
   }
 
   module _ (n : ℕ) (w₁ : List ℕ) (g : Large w₁) (r : Harness H.size (records_in len w) before s t (list_in n w₁)) where
-    pub breach-found : {w₂ : List ℕ} {end : ℕ} {answer : Result ℕ ℕ} → Within scratch w w₁ → RightAt (IsField (field 134 (numbers (k ∷ list_in n w₁)))) report at (Ok end) → Sheeted job report w₁ w₂ (at + 5) end answer → Breached job report w w₂ at H.size len before k s t answer
+    pub breach-found : {w₂ : List ℕ} {found answer : Result ℕ ℕ} → Within scratch w w₁ → RightAt (IsField (field 134 (numbers (k ∷ list_in n w₁)))) report at found → Turned job report w₁ w₂ (at + 5) found answer → Breached job report w w₂ at H.size len before k s t answer
     breach-found v x u = record { kept = within-trans v u.kept; right = λ b q h. reason-passed (breach-grounded n w₁ g r) (h (list_in n w₁) r) x u }
-
-    pub breach-missing : {v : ℕ} → Within scratch w w₁ → RightAt (IsField (field 134 (numbers (k ∷ list_in n w₁)))) report at (Err v) → Breached job report w w₁ at H.size len before k s t (Err v)
-    breach-missing v x = record { kept = v; right = λ b q h. reason-missing (breach-grounded n w₁ g r) (h (list_in n w₁) r) x }
 
 -- What is right by the table is right for the job.
 module _ {job w : List ℕ} {H : Head} {len joins before differs : ℕ} (B : Breaking job w H len joins before differs) where

@@ -111,8 +111,8 @@ pub fn explained(
 {
     match explain(work, q.size, q.len, q.joins, q.before, q.s, q.t) {
         Some(count) => {
-            let end = reason_stands(report, at, work, count)?;
-            sheets_behind(job, report, at + 3, end, work, q.sheeted)
+            let found = reason_stands(report, at, work, count);
+            sheets_behind(found, job, report, at + 3, work, q.sheeted)
         }
         None => bare(report, at, report::APART),
     }
@@ -135,8 +135,8 @@ fn breach(
 {
     match explain(work, c.size, c.len, c.joins, before, s, t) {
         Some(count) => {
-            let end = breach_stands(report, at, work, number, count)?;
-            sheets_behind(job, report, at + 5, end, work, c.sheeted)
+            let found = breach_stands(report, at, work, number, count);
+            sheets_behind(found, job, report, at + 5, work, c.sheeted)
         }
         None => Err(at),
     }

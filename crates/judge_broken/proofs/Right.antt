@@ -33,7 +33,7 @@ use Rattle.answer_ask.specs.Right.{RightAt, to, wrong}
 use Rattle.answer_ask.proofs.Right.{found}
 use Rattle.judge_sheets.specs.Passing as pass
 use Rattle.judge_sheets.specs.Passing.{PassedAt}
-use Rattle.judge_sheets.specs.Behind.{Behind, Sheeted}
+use Rattle.judge_sheets.specs.Behind.{Behind, Turned}
 use Rattle.judge_sheets.proofs.Passing.{reasonless, reason-passed}
 use Rattle.profile.specs.Plain.{plain_rules, plain_laws}
 use Rattle.judge_explain.specs.Right.{Reasoned, Known}
@@ -172,8 +172,8 @@ module _ {job w : List ℕ} {H : Head} {len joins before differs : ℕ} (B : Bre
         list_at : (report : List ℕ) (at : ℕ) (L : List ℕ) → Holds report at (field 134 (numbers (k ∷ L))) → Holds report (at + 5) (numbers L)
         list_at report at L h = let o : at + 3 + 2 ≡ at + 5 = omega arith in subst (λ (n : ℕ). Holds report n (numbers L)) o (list-behind report (at + 3) k L (field-body report at 134 (numbers (k ∷ L)) h)).1
 
-    pub behind-there : {report w' : List ℕ} {at end : ℕ} → at ≤ length report → Breached w w' report at q k (Ok end) → Behind job report w' (at + 5) end
-    behind-there {report} {w'} {at} {end} l g = go (rw z at g.right) refl
+    pub behind-there : {report w' : List ℕ} {at : ℕ} {found : Result ℕ ℕ} → at ≤ length report → Breached w w' report at q k found → (end : ℕ) → found ≡ Ok end → Behind job report w' (at + 5) end
+    behind-there {report} {w'} {at} l g end e = go (rw z at g.right) e
       where
         go : {a : Result ℕ ℕ} → RightAt (BreachField w Q k) report at a → a ≡ Ok end → Behind job report w' (at + 5) end
         go (to {p = p'} (of r) h i) j = let y : p' ≡ end = cc in reason-behind g.kept l r h (sym y ∙ i)
@@ -188,29 +188,13 @@ module _ {job w : List ℕ} {H : Head} {len joins before differs : ℕ} (B : Bre
           let i : k' ≡ k = earliest-one (rw (x, y) at e') e in
           rw i (of {L = L} (rw B.records (rw (x, B.head, i, f.is) at r)))
 
-      no_answer : {report : List ℕ} {at v : ℕ} → RightAt (BreachField w Q k) report at (Err v) → PassedAt plain_rules (matter_in job) b broken report at (Err v)
-      no_answer {report} {at} {v} r = go r refl
-        where
-          go : {a : Result ℕ ℕ} → RightAt (BreachField w Q k) report at a → a ≡ Err v → PassedAt plain_rules (matter_in job) b broken report at (Err v)
-          go (to h g i) j = let o : ◌≡◌ {A = ℕ} 0 1 = cc in absurd (omega arith)
-          go (wrong {p = v'} n i) j =
-              let o : v' ≡ v = cc in
-              pass.wrong (λ u. let r = front.broken-right {M = matter_in job} {b = b} {k = k} (rw (x, y) e) u in n (stands-map (λ g m. back m) r.1)) (λ L u. n (stands-map (λ g m. back m) u)) (sym o ∙ i)
+      breach-answer : {report w₁ w₂ : List ℕ} {at : ℕ} {found answer : Result ℕ ℕ} → RightAt (BreachField w Q k) report at found → Turned job report w₁ w₂ (at + 5) found answer → PassedAt plain_rules (matter_in job) b broken report at answer
+      breach-answer {report} {at = at} (to {p = p'} (of {L = L} r) h i) t =
+          let o : at + 3 + 2 ≡ at + 5 = omega arith in
+          reason-passed plain_laws (breach-there r) h i
+          (t.some p' refl L (omega (arith, length-field 134 (numbers (k ∷ L)), length-numbers (k ∷ L))) (subst (λ (n : ℕ). Holds report n (numbers L)) o (list-behind report (at + 3) k L (field-body report at 134 (numbers (k ∷ L)) h)).1))
+      breach-answer (wrong {p = p'} n i) t =
+          rw (t.none p' refl) (pass.wrong (λ u. let r = front.broken-right {M = matter_in job} {b = b} {k = k} (rw (x, y) e) u in n (stands-map (λ g m. back m) r.1)) (λ L u. n (stands-map (λ g m. back m) u)) i)
 
-      breach-answer : {report w₁ w₂ : List ℕ} {at end : ℕ} {answer : Result ℕ ℕ} → RightAt (BreachField w Q k) report at (Ok end) → Sheeted job report w₁ w₂ (at + 5) end answer → PassedAt plain_rules (matter_in job) b broken report at answer
-      breach-answer {report} {w₁} {w₂} {at} {end} {answer} r t = go r refl
-        where
-          go : {a : Result ℕ ℕ} → RightAt (BreachField w Q k) report at a → a ≡ Ok end → PassedAt plain_rules (matter_in job) b broken report at answer
-          go (to {p = p'} (of {L = L} r) h i) j =
-              let n : p' ≡ end = cc in
-              let m : end ≡ at + length (field 134 (numbers (k ∷ L))) = sym n ∙ i in
-              let o : at + 3 + 2 ≡ at + 5 = omega arith in
-              reason-passed plain_laws (breach-there r) h m
-              (t.right L (omega (arith, length-field 134 (numbers (k ∷ L)), length-numbers (k ∷ L))) (subst (λ (n : ℕ). Holds report n (numbers L)) o (list-behind report (at + 3) k L (field-body report at 134 (numbers (k ∷ L)) h)).1))
-          go (wrong n i) j = let o : ◌≡◌ {A = ℕ} 0 1 = cc in absurd (omega arith)
-
-    pub checked-some : {w₁ w₂ report : List ℕ} {at end : ℕ} {answer : Result ℕ ℕ} → Breached w w₁ report at q k (Ok end) → Sheeted job report w₁ w₂ (at + 5) end answer → Checked plain_rules job report w w₂ before differs at answer
+    pub checked-some : {w₁ w₂ report : List ℕ} {at : ℕ} {found answer : Result ℕ ℕ} → Breached w w₁ report at q k found → Turned job report w₁ w₂ (at + 5) found answer → Checked plain_rules job report w w₂ before differs at answer
     checked-some h t = record { kept = within-trans h.kept t.kept; right = λ b x y. breach-answer b x y (rw z at h.right) t }
-
-    pub checked-missing : {w₁ report : List ℕ} {at v : ℕ} → Breached w w₁ report at q k (Err v) → Checked plain_rules job report w w₁ before differs at (Err v)
-    checked-missing h = record { kept = h.kept; right = λ b x y. no_answer b x y (rw z at h.right) }

@@ -115,13 +115,13 @@ pub fn checked(
     }
     let pair = pair_at(job, number);
     let first = since(work, number - 1);
-    let end = breach(
+    let found = breach(
         report,
         at,
         work,
         asked(c, before, pair.s, pair.t),
         first,
         number,
-    )?;
-    sheets_behind(job, report, at + 5, end, work, c.sheeted)
+    );
+    sheets_behind(found, job, report, at + 5, work, c.sheeted)
 }

@@ -42,7 +42,7 @@ use Rattle.moment.specs.Posed.{head_asked, Deciding}
 use Rattle.answer_ask.specs.Right as far
 use Rattle.answer_ask.specs.Right.{RightAt}
 use Rattle.judge_sheets.specs.Passing.{PassedAt, to, wrong}
-use Rattle.judge_sheets.specs.Behind.{Behind, Sheeted}
+use Rattle.judge_sheets.specs.Behind.{Behind, Turned}
 use Rattle.judge_sheets.proofs.Passing.{reasonless, reason-passed}
 use Rattle.profile.specs.Plain.{plain_rules, plain_laws}
 use Rattle.answer_ask.proofs.Right.{found}
@@ -248,8 +248,8 @@ module _ {job w : List ℕ} {q : Question} (E : Explaining job w q) where
     there = λ n i. omega (arith, r.stand n i, early);
   }
 
-  pub behind-there : {report w' : List ℕ} {at end : ℕ} → at ≤ length report → Grounded w w' report at q (Ok end) → Behind job report w' (at + 3) end
-  behind-there {report} {w'} {at} {end} l g = go g.right refl
+  pub behind-there : {report w' : List ℕ} {at : ℕ} {found : Result ℕ ℕ} → at ≤ length report → Grounded w w' report at q found → (end : ℕ) → found ≡ Ok end → Behind job report w' (at + 3) end
+  behind-there {report} {w'} {at} l g end e = go g.right e
     where
       go : {p : Result ℕ ℕ} → RightAt (BecauseField w q) report at p → p ≡ Ok end → Behind job report w' (at + 3) end
       go (far.to {p = p'} (of r) h i) e = let z : p' ≡ end = cc in reason-behind g.kept l r h (sym z ∙ i)
@@ -268,27 +268,11 @@ module _ {job w : List ℕ} {q : Question} (E : Explaining job w q) where
     follows : Follows (UpTo (matter_in job).records b.records) q.s.0 q.t.0
     follows = rw ((known E b e).records, e) (more_of (λ n l. omega (arith, K.early)) K.first.then)
 
-    no_answer : {report : List ℕ} {at p : ℕ} → RightAt (BecauseField w q) report at (Err p) → PassedAt plain_rules (matter_in job) b (explain q.s.0 q.t.0) report at (Err p)
-    no_answer {report} {at} {p} r = go r refl
-      where
-        go : {a : Result ℕ ℕ} → RightAt (BecauseField w q) report at a → a ≡ Err p → PassedAt plain_rules (matter_in job) b (explain q.s.0 q.t.0) report at (Err p)
-        go (far.to x h i) z = let y : ◌≡◌ {A = ℕ} 0 1 = cc in absurd (omega arith)
-        go (far.wrong {p = p'} n i) z =
-            let o : p' ≡ p = cc in
-            wrong (λ x. let y = front.follows-right {M = matter_in job} {b = b} follows x in n (stands-map (λ f r. field-because r) y.1)) (λ L x. n (stands-map (λ f r. field-because r) x)) (sym o ∙ i)
+    because-answer : {report w₁ w₂ : List ℕ} {at : ℕ} {found answer : Result ℕ ℕ} → RightAt (BecauseField w q) report at found → Turned job report w₁ w₂ (at + 3) found answer → PassedAt plain_rules (matter_in job) b (explain q.s.0 q.t.0) report at answer
+    because-answer {report} {at = at} (far.to {p = p} (of {L = L} x) h i) t =
+        reason-passed plain_laws (because-known (known E b e) x) h i (t.some p refl L (omega (arith, length-field 132 (numbers L), length-numbers L)) (field-body report at 132 (numbers L) h))
+    because-answer (far.wrong {p = p} n i) t =
+        rw (t.none p refl) (wrong (λ x. let y = front.follows-right {M = matter_in job} {b = b} follows x in n (stands-map (λ f r. field-because r) y.1)) (λ L x. n (stands-map (λ f r. field-because r) x)) i)
 
-    because-answer : {report w₁ w₂ : List ℕ} {at end : ℕ} {answer : Result ℕ ℕ} → RightAt (BecauseField w q) report at (Ok end) → Sheeted job report w₁ w₂ (at + 3) end answer → PassedAt plain_rules (matter_in job) b (explain q.s.0 q.t.0) report at answer
-    because-answer {report} {w₁} {w₂} {at} {end} {answer} r t = go r refl
-      where
-        go : {a : Result ℕ ℕ} → RightAt (BecauseField w q) report at a → a ≡ Ok end → PassedAt plain_rules (matter_in job) b (explain q.s.0 q.t.0) report at answer
-        go (far.to {p = p} (of {L = L} x) h i) z =
-            let o : p ≡ end = cc in
-            let j : end ≡ at + length (field 132 (numbers L)) = sym o ∙ i in
-            reason-passed plain_laws (because-known (known E b e) x) h j (t.right L (omega (arith, length-field 132 (numbers L), length-numbers L)) (field-body report at 132 (numbers L) h))
-        go (far.wrong n i) z = let y : ◌≡◌ {A = ℕ} 0 1 = cc in absurd (omega arith)
-
-  pub because-explained : {k : ℕ} {report w₁ w₂ : List ℕ} {at end : ℕ} {answer : Result ℕ ℕ} → Known w q k → Grounded w w₁ report at q (Ok end) → Sheeted job report w₁ w₂ (at + 3) end answer → Explained plain_rules job report w w₂ at q answer
+  pub because-explained : {k : ℕ} {report w₁ w₂ : List ℕ} {at : ℕ} {found answer : Result ℕ ℕ} → Known w q k → Grounded w w₁ report at q found → Turned job report w₁ w₂ (at + 3) found answer → Explained plain_rules job report w w₂ at q answer
   because-explained K g t = record { kept = within-trans g.kept t.kept; right = λ b e. because-answer K b e g.right t }
-
-  pub none-explained : {k : ℕ} {report w₁ : List ℕ} {at p : ℕ} → Known w q k → Grounded w w₁ report at q (Err p) → Explained plain_rules job report w w₁ at q (Err p)
-  none-explained K g = record { kept = g.kept; right = λ b e. no_answer K b e g.right }

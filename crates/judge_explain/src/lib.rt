@@ -116,8 +116,8 @@ pub fn explained(
 {
     let first = came(work, q);
     if first <= q.before {
-        let end = because(report, at, work, q, first)?;
-        return sheets_behind(job, report, at + 3, end, work, q.sheeted);
+        let found = because(report, at, work, q, first);
+        return sheets_behind(found, job, report, at + 3, work, q.sheeted);
     }
     if report_read::is_apart(report, at) {
         Ok(at + 3)

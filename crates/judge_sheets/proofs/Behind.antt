@@ -2,7 +2,7 @@
 -- Assumes nothing.
 use Prim.Native.Nat.{ℕ, ◌+◌, ◌*◌, ◌-◌, ◌/◌, ◌≤◌}
 use native.Mathlib.Omega.{arith}
-use mathlib.Core.Path.{◌≡◌, refl, sym, subst}
+use mathlib.Core.Path.{◌≡◌, refl, sym, ◌∙◌, subst}
 use mathlib.Core.Bool.{true, false}
 use mathlib.Core.List.{List, Memᴰ}
 use lib.ListN.{length}
@@ -21,9 +21,9 @@ use Rattle.report_read.proofs.Read.{holds-one, holds-none}
 use Rattle.report_numbers.specs.Read.{ListRead}
 use Rattle.sheets_walk.specs.Walk.{Listed}
 use Rattle.sheets_field.specs.Field as sheets
-use Rattle.std.specs.Prelude.{Ok, Err}
+use Rattle.std.specs.Prelude.{Result, Ok, Err}
 use Rattle.answer_ask.proofs.Right.{found}
-use Rattle.judge_sheets.specs.Behind.{Behind, Filing, stood, missing, Sheeted}
+use Rattle.judge_sheets.specs.Behind.{Behind, Filing, stood, missing, Sheeted, Turned}
 
 module _ {job report w : List ℕ} {from end : ℕ} (B : Behind job report w from end) where
   pub count-is : (end - from) / 2 ≡ length B.list
@@ -72,6 +72,26 @@ module _ {job report w : List ℕ} {from end : ℕ} (B : Behind job report w fro
           some : (L : List ℕ) → listed ≡ L → Filing job report L end (Ok p)
           some L i = stood (filed t (subst (λ (l : List ℕ). Sheets (sheets_of (items_in job)) l s.stands.0) i s.stands.1)) s.stands.2 s.stands.3
 
--- In edition 1 nothing belongs there.
-pub bare_behind : {job report w : List ℕ} {from end : ℕ} → (head_in job).sheeted ≡ false → Sheeted job report w w from end (Ok end)
-bare_behind {report = report} {w = w} {end = end} u = record { kept = within-refl w; right = λ L h k. stood {p = end} (unfiled u) (holds-none report end) (omega arith) }
+-- What a reason that was found, or none, leads to.
+module _ {job report w : List ℕ} {from : ℕ} where
+  pub turned-filed : {w' : List ℕ} {end : ℕ} {found answer : Result ℕ ℕ} → found ≡ Ok end → Sheeted job report w w' from end answer → Turned job report w w' from found answer
+  turned-filed {w'} {end} {found} {answer} e s = record {
+    kept = s.kept;
+    none = λ p z. let y : ◌≡◌ {A = ℕ} 0 1 = cc in absurd (omega arith);
+    some = λ end' z L h k. let q : end ≡ end' = cc in subst (λ (n : ℕ). Filing job report L n answer) q (s.right L (h ∙ sym q) k);
+  }
+
+  -- In edition 1 nothing belongs there.
+  pub turned-bare : {end : ℕ} {found : Result ℕ ℕ} → (head_in job).sheeted ≡ false → found ≡ Ok end → Turned job report w w from found (Ok end)
+  turned-bare {end} u e = turned-filed e (record { kept = within-refl w; right = λ L h k. stood {p = end} (unfiled u) (holds-none report end) (omega arith) })
+
+  pub turned_none : {p : ℕ} {found answer : Result ℕ ℕ} → found ≡ Err p → answer ≡ Err p → Turned job report w w from found answer
+  turned_none e i = record {
+    kept = within-refl w;
+    none = λ p' z. i ∙ sym e ∙ z;
+    some = λ end z L h k. let y : ◌≡◌ {A = ℕ} 0 1 = cc in absurd (omega arith);
+  }
+
+  -- Where a reason was found, its sheets were looked for.
+  pub turned-sheeted : {w' : List ℕ} {end : ℕ} {answer : Result ℕ ℕ} → Turned job report w w' from (Ok end) answer → Sheeted job report w w' from end answer
+  turned-sheeted {w'} {end} t = record { kept = t.kept; right = t.some end refl }

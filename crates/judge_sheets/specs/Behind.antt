@@ -33,3 +33,9 @@ pub data Filing (job report : List ℕ) (L : List ℕ) (end : ℕ) : Result ℕ 
 pub record Sheeted (job report w w' : List ℕ) (from end : ℕ) (answer : Result ℕ ℕ) : Type 0 where
   pub kept : Within scratch w w'
   pub right : (L : List ℕ) → from + 2 * length L ≡ end → Holds report from (numbers L) → Filing job report L end answer
+
+-- The sheets were looked for where a reason was found; where none was, that is told as it was.
+pub record Turned (job report w w' : List ℕ) (from : ℕ) (found answer : Result ℕ ℕ) : Type 0 where
+  pub kept : Within scratch w w'
+  pub none : (p : ℕ) → found ≡ Err p → answer ≡ Err p
+  pub some : (end : ℕ) → found ≡ Ok end → (L : List ℕ) → from + 2 * length L ≡ end → Holds report from (numbers L) → Filing job report L end answer

@@ -1,11 +1,10 @@
 -- `judge_broken::checked` meets its contract: the scan finds the earliest broken pair, whose field is looked for, or that none is broken.
 -- Assumes nothing.
 use native.Mathlib.Omega.{arith}
-use Rattle.std.proofs.lemmas.Result.{err_from_is_err_and}
 use Rattle.pairs.proofs.Breaking.{breaking-few, breaking-some, breaking-none, breaking-sought}
 use mathlib.Core.Path.{ap}
 use Rattle.job_field.specs.Items.{Head}
-use Rattle.judge_broken.proofs.Right.{checked-none, breach-known, behind-there, checked-some, checked-missing}
+use Rattle.judge_broken.proofs.Right.{checked-none, breach-known, behind-there, checked-some}
 use Rattle.judge_broken.proofs.checked.Goals as goal
 
 pub first_broken-number-requires : goal.first_broken-number-requires
@@ -26,19 +25,11 @@ overflow_sub-number c = omega (arith, c.if-number-eq0.false)
 pub since-first-requires : goal.since-first-requires
 since-first-requires c = let e = (breaking-some c.requires.0 c.first_broken-number.ensures (omega (arith, c.if-number-eq0.false))) in (c.requires.0.past.loaded.long, omega (arith, e.number, e.before, breaking-few c.requires.0))
 
-pub breach-requires : goal.breach-requires
-breach-requires c = (breach-known c.requires.0 c.first_broken-number.ensures (breaking-some c.requires.0 c.first_broken-number.ensures (omega (arith, c.if-number-eq0.false))) c.pair_at-pair.ensures c.asked.ensures c.since-first.ensures, c.requires.1)
-
-pub overflow_add-at : goal.overflow_add-at
-overflow_add-at c = let b = behind-there c.requires.0 c.first_broken-number.ensures (breaking-some c.requires.0 c.first_broken-number.ensures (omega (arith, c.if-number-eq0.false))) c.pair_at-pair.ensures c.asked.ensures c.requires.1 c.in_ok-end.ensures in omega (arith, b.all, b.within)
+pub breach-found-requires : goal.breach-found-requires
+breach-found-requires c = (breach-known c.requires.0 c.first_broken-number.ensures (breaking-some c.requires.0 c.first_broken-number.ensures (omega (arith, c.if-number-eq0.false))) c.pair_at-pair.ensures c.asked.ensures c.since-first.ensures, c.requires.1)
 
 pub sheets_behind-requires : goal.sheets_behind-requires
-sheets_behind-requires c = (behind-there c.requires.0 c.first_broken-number.ensures (breaking-some c.requires.0 c.first_broken-number.ensures (omega (arith, c.if-number-eq0.false))) c.pair_at-pair.ensures c.asked.ensures c.requires.1 c.in_ok-end.ensures, ap (λ (h : Head). h.sheeted) c.requires.0.head)
+sheets_behind-requires c = (ap (λ (h : Head). h.sheeted) c.requires.0.head, behind-there c.requires.0 c.first_broken-number.ensures (breaking-some c.requires.0 c.first_broken-number.ensures (omega (arith, c.if-number-eq0.false))) c.pair_at-pair.ensures c.asked.ensures c.requires.1 c.breach-found.ensures)
 
 pub returns : goal.returns
-returns c = checked-some c.requires.0 c.first_broken-number.ensures (breaking-some c.requires.0 c.first_broken-number.ensures (omega (arith, c.if-number-eq0.false))) c.pair_at-pair.ensures c.asked.ensures c.in_ok-end.ensures c.sheets_behind.ensures
-
-pub returns-in_err-end : goal.returns-in_err-end
-returns-in_err-end c =
-    let p = err_from_is_err_and c.from_residual.result c.from_residual.ensures.1 in
-    rw (p.1, p.2) (checked-missing c.requires.0 c.first_broken-number.ensures (breaking-some c.requires.0 c.first_broken-number.ensures (omega (arith, c.if-number-eq0.false))) c.pair_at-pair.ensures c.asked.ensures c.in_err-end.ensures)
+returns c = checked-some c.requires.0 c.first_broken-number.ensures (breaking-some c.requires.0 c.first_broken-number.ensures (omega (arith, c.if-number-eq0.false))) c.pair_at-pair.ensures c.asked.ensures c.breach-found.ensures c.sheets_behind.ensures

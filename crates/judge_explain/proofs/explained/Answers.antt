@@ -1,29 +1,19 @@
 -- `judge_explain::explained` meets its contract: by the first k the equality follows from the records before the question, or it does not.
 -- Assumes nothing.
-use native.Mathlib.Omega.{arith}
-use Rattle.std.proofs.lemmas.Result.{err_from_is_err_and}
-use Rattle.judge_explain.proofs.Right.{untrue, apart-passed, apart-missing, behind-there, edition-there, because-explained, none-explained}
+use Rattle.judge_explain.proofs.Right.{untrue, apart-passed, apart-missing, behind-there, edition-there, because-explained}
 use Rattle.judge_explain.proofs.explained.Goals as goal
 
 pub came-first-requires : goal.came-first-requires
 came-first-requires c = c.requires.0.posed
 
-pub because-requires : goal.because-requires
-because-requires c = (record { posed = c.requires.0.posed; early = c.if-first-q.true; first = c.came-first.ensures.0.then c.if-first-q.true }, c.requires.1)
-
-pub overflow_add-at : goal.overflow_add-at
-overflow_add-at c = let b = behind-there c.requires.0 c.requires.1 c.in_ok-end.ensures in omega (arith, b.all, b.within)
+pub because-found-requires : goal.because-found-requires
+because-found-requires c = (record { posed = c.requires.0.posed; early = c.if-first-q.true; first = c.came-first.ensures.0.then c.if-first-q.true }, c.requires.1)
 
 pub sheets_behind-requires : goal.sheets_behind-requires
-sheets_behind-requires c = (behind-there c.requires.0 c.requires.1 c.in_ok-end.ensures, edition-there c.requires.0)
+sheets_behind-requires c = (edition-there c.requires.0, behind-there c.requires.0 c.requires.1 c.because-found.ensures)
 
 pub returns-then-first-q : goal.returns-then-first-q
-returns-then-first-q c = because-explained c.requires.0 (record { posed = c.requires.0.posed; early = c.if-first-q.true; first = c.came-first.ensures.0.then c.if-first-q.true }) c.in_ok-end.ensures c.sheets_behind.ensures
-
-pub returns-in_err-end : goal.returns-in_err-end
-returns-in_err-end c =
-    let p = err_from_is_err_and c.from_residual.result c.from_residual.ensures.1 in
-    rw (p.1, p.2) (none-explained c.requires.0 (record { posed = c.requires.0.posed; early = c.if-first-q.true; first = c.came-first.ensures.0.then c.if-first-q.true }) c.in_err-end.ensures)
+returns-then-first-q c = because-explained c.requires.0 (record { posed = c.requires.0.posed; early = c.if-first-q.true; first = c.came-first.ensures.0.then c.if-first-q.true }) c.because-found.ensures c.sheets_behind.ensures
 
 pub returns-then-is_apart : goal.returns-then-is_apart
 returns-then-is_apart c = apart-passed c.requires.0 (c.came-first.ensures.0.never c.if-first-q.false) c.args.report.now c.args.at (c.is_apart.ensures.0 c.if-is_apart.true)
