@@ -24,14 +24,13 @@ use Rattle.report.proofs.Known.{stands-map}
 use Rattle.report.proofs.Bytes.{length_two, length-numbers, length-field, field-one}
 use Rattle.report_read.specs.Read.{Holds, FrontAt, whole, none}
 use Rattle.report_read.specs.declared.Front.{Front}
-use Rattle.report_read.specs.declared.Front.TheVariants.{Field, Cut}
 use Rattle.report_read.proofs.Read.{holds-one, holds-room, holds-front, holds-behind, holds-both, number-held, field-body, field_room}
 use Rattle.moment.specs.declared.Question as moment
 use Rattle.moment.specs.Posed.{head_asked}
 use Rattle.pairs.specs.declared.Differing.{Differing}
 use Rattle.pairs.specs.Found.{Found}
 use Rattle.pairs.specs.Breaking.{Breaking}
-use Rattle.std.specs.Prelude.{Result, Ok, Err}
+use Rattle.std.specs.Prelude.{Option, Some, None, Result, Ok, Err}
 use Rattle.answer_ask.specs.Right as right
 use Rattle.answer_ask.specs.Right.{RightAt}
 use Rattle.answer_ask.proofs.Right.{found}
@@ -49,11 +48,14 @@ use Rattle.harness_test.specs.Stands.{IsField, FieldAt, Broke, Breached}
 
 -- What stands at the front of a field.
 module _ {report : List ℕ} {at : ℕ} where
-  pub front-field : {k n : ℕ} {r : Front} → FrontAt report at r → r ≡ Field k n → FieldAt report at k n
-  front-field {k} {n} (whole {kind = j} body h) e = let q : j ≡ k = cc in record { body = body; long = cc; holds = rw (← q) h }
+  pub front-field : {k n : ℕ} {r : Option Front} → FrontAt report at r → r ≡ Some (record { kind = k; size = n }) → FieldAt report at k n
+  front-field {k} {n} (whole {kind = j} body h) e =
+      let f : ◌≡◌ {A = Front} (record { kind = j; size = length body }) (record { kind = k; size = n }) = cc in
+      let q : j ≡ k = ap (λ (f : Front). f.kind) f in
+      record { body = body; long = ap (λ (f : Front). f.size) f; holds = rw (← q) h }
   front-field (none h) e = let z : ◌≡◌ {A = ℕ} 0 1 = cc in absurd (omega arith)
 
-  pub front_cut : {k n : ℕ} {r : Front} → FrontAt report at r → r ≡ Cut → FieldAt report at k n → ⊥
+  pub front_cut : {k n : ℕ} {r : Option Front} → FrontAt report at r → r ≡ None → FieldAt report at k n → ⊥
   front_cut (whole body h) e f = let z : ◌≡◌ {A = ℕ} 0 1 = cc in omega arith
   front_cut {k} (none h) e f = h k f.body f.holds
 

@@ -33,8 +33,8 @@ fn is_field(report: &[u8], at: usize, kind: u8, bytes: usize) -> bool
     ensures { (result ≡ true) ↔ FieldAt report.now at kind bytes }
 {
     match front_at(report, at) {
-        Front::Cut => false,
-        Front::Field(k, n) => {
+        None => false,
+        Some(Front { kind: k, size: n }) => {
             if k != kind {
                 return false;
             }

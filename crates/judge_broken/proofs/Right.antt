@@ -23,12 +23,11 @@ use Rattle.report.proofs.Broken.{earliest-one, earliest-some}
 use Rattle.report.proofs.Bytes.{length_two, length-numbers, length-field, field-one}
 use Rattle.report_read.specs.Read.{Holds, FrontAt, whole, none}
 use Rattle.report_read.specs.declared.Front.{Front}
-use Rattle.report_read.specs.declared.Front.TheVariants.{Cut}
 use Rattle.report_read.proofs.Read.{holds-one, holds-front, holds-behind, holds-both, number-held, field-body, field_room}
 use Rattle.report_read.proofs.Right as front
 use Rattle.moment.specs.declared.Question.{Question}
 use Rattle.moment.specs.Posed.{Deciding}
-use Rattle.std.specs.Prelude.{Result, Ok, Err}
+use Rattle.std.specs.Prelude.{Option, None, Result, Ok, Err}
 use Rattle.answer_ask.specs.Right.{RightAt, to, wrong}
 use Rattle.answer_ask.proofs.Right.{found}
 use Rattle.judge_sheets.specs.Passing as pass
@@ -84,10 +83,10 @@ module _ (w report : List ℕ) (at : ℕ) (q : Question) (k : ℕ) where
       go : {f : List ℕ} → BreachField w q k f → Holds report at f → (L : List ℕ) × Reason q.size (records_in q.len w) q.before q.s.0 q.t.0 L × Holds report at (field 134 (numbers (k ∷ L)))
       go (of {L = L} r) h = (L, r, h)
 
-  pub breach-cut : {r : Front} → FrontAt report at r → r ≡ Cut → Breached w w report at q k (Err at)
+  pub breach-cut : {r : Option Front} → FrontAt report at r → r ≡ None → Breached w w report at q k (Err at)
   breach-cut f e = record { kept = within-refl w; right = wrong (λ x. let b = breach-found x in go f e b.0 b.2) refl }
     where
-      go : {r : Front} → FrontAt report at r → r ≡ Cut → (L : List ℕ) → Holds report at (field 134 (numbers (k ∷ L))) → ⊥
+      go : {r : Option Front} → FrontAt report at r → r ≡ None → (L : List ℕ) → Holds report at (field 134 (numbers (k ∷ L))) → ⊥
       go (whole body h) e L g = let z : ◌≡◌ {A = ℕ} 0 1 = cc in omega arith
       go (none h) e L g = h 134 (numbers (k ∷ L)) g
 

@@ -53,8 +53,8 @@ fn breach(
     ensures { Breached work.old work.new report.now at q number result }
 {
     match front_at(report, at) {
-        Front::Cut => Err(at),
-        Front::Field(kind, bytes) => {
+        None => Err(at),
+        Some(Front { kind, size: bytes }) => {
             if kind != report::BREACHED {
                 return Err(at);
             }

@@ -29,7 +29,6 @@ use Rattle.report.proofs.Known.{because-known, because-tabled, stands-map}
 use Rattle.report_read.specs.Read.{Holds, FrontAt, whole, none}
 use Rattle.report_numbers.specs.Read.{ListRead}
 use Rattle.report_read.specs.declared.Front.{Front}
-use Rattle.report_read.specs.declared.Front.TheVariants.{Field, Cut}
 use Rattle.report.proofs.Bytes.{length-field, length-numbers, numbers-one, field-one}
 use Rattle.meaning.proofs.Tests.{is-not}
 use Rattle.meaning.specs.Limits.{most_tags}
@@ -37,7 +36,7 @@ use Rattle.table.specs.Places.{most_waiting, scratch}
 use Rattle.report_read.proofs.Read.{holds-rest, holds-one, field-body, field_room}
 use Rattle.report_read.proofs.Right as front
 use Rattle.moment.specs.declared.Question.{Question}
-use Rattle.std.specs.Prelude.{Result, Ok, Err}
+use Rattle.std.specs.Prelude.{Option, Some, None, Result, Ok, Err}
 use Rattle.moment.specs.Posed.{head_asked, Deciding}
 use Rattle.answer_ask.specs.Right as far
 use Rattle.answer_ask.specs.Right.{RightAt}
@@ -188,8 +187,11 @@ pub record Whole (report : List ℕ) (at kind size : ℕ) : Type 0 where
   pub long : length body ≡ size
   pub holds : Holds report at (field kind body)
 
-pub front-whole : {report : List ℕ} {at kind size : ℕ} {r : Front} → FrontAt report at r → r ≡ Field kind size → Whole report at kind size
-front-whole {report} {at} {kind} {size} (whole {kind = k} body h) e = let q : k ≡ kind = cc in record { body = body; long = cc; holds = rw (← q) h }
+pub front-whole : {report : List ℕ} {at kind size : ℕ} {r : Option Front} → FrontAt report at r → r ≡ Some (record { kind = kind; size = size }) → Whole report at kind size
+front-whole {report} {at} {kind} {size} (whole {kind = k} body h) e =
+    let f : ◌≡◌ {A = Front} (record { kind = k; size = length body }) (record { kind = kind; size = size }) = cc in
+    let q : k ≡ kind = ap (λ (f : Front). f.kind) f in
+    record { body = body; long = ap (λ (f : Front). f.size) f; holds = rw (← q) h }
 front-whole (none h) e = let z : ◌≡◌ {A = ℕ} 0 1 = cc in absurd (omega arith)
 
 pub whole_room : {report : List ℕ} {at kind size : ℕ} → at ≤ length report → Whole report at kind size → at + 3 + size ≤ length report
@@ -206,10 +208,10 @@ module _ (w report : List ℕ) (at : ℕ) (q : Question) where
       go : {f : List ℕ} → BecauseField w q f → Holds report at f → (L : List ℕ) × Reason q.size (records_in q.len w) q.before q.s.0 q.t.0 L × Holds report at (field 132 (numbers L))
       go (of {L = L} r) h = (L, r, h)
 
-  pub because-cut : {r : Front} → FrontAt report at r → r ≡ Cut → Grounded w w report at q (Err at)
+  pub because-cut : {r : Option Front} → FrontAt report at r → r ≡ None → Grounded w w report at q (Err at)
   because-cut f e = record { kept = within-refl w; right = far.wrong (λ x. let b = reason-found x in go f e b.0 b.2) refl }
     where
-      go : {r : Front} → FrontAt report at r → r ≡ Cut → (L : List ℕ) → Holds report at (field 132 (numbers L)) → ⊥
+      go : {r : Option Front} → FrontAt report at r → r ≡ None → (L : List ℕ) → Holds report at (field 132 (numbers L)) → ⊥
       go (whole body h) e L g = let z : ◌≡◌ {A = ℕ} 0 1 = cc in omega arith
       go (none h) e L g = h 132 (numbers L) g
 

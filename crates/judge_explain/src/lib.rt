@@ -89,8 +89,8 @@ fn because(
     ensures { Grounded work.old work.new report.now at q result }
 {
     match report_read::front_at(report, at) {
-        Front::Cut => Err(at),
-        Front::Field(kind, bytes) => {
+        None => Err(at),
+        Some(Front { kind, size: bytes }) => {
             if kind != report::BECAUSE {
                 return Err(at);
             }

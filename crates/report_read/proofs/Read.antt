@@ -10,7 +10,7 @@ use lib.Seq.{drop-cons, drop-drop, drop-append_seam, length-take-le}
 use Rattle.job_field.specs.Reading.{number_at}
 use Rattle.report.specs.Report.{two, numbers, front, field}
 use Rattle.report_read.specs.Read.{Holds, FrontAt, whole, none}
-use Rattle.report_read.specs.declared.Front.TheVariants.{Field, Cut}
+use Rattle.std.specs.Prelude.{Some, None}
 use Rattle.report.proofs.Bytes.{two-of, two-one, append-one, length_two, length-numbers, length-field}
 
 module _ (report : List ℕ) (at : ℕ) where
@@ -113,15 +113,15 @@ module _ (report : List ℕ) (at : ℕ) where
   pair-last kind a b h = let e : at + 3 + 2 ≡ at + 5 = omega arith in rw e at (pair-second report (at + 3) a b (field-body report at kind (numbers (a ∷ b ∷ [])) h))
 
   -- What the three bytes at the place and the report's length say of the front there.
-  pub front-missing : at ≤ length report → length report < at + 3 → FrontAt report at Cut
+  pub front-missing : at ≤ length report → length report < at + 3 → FrontAt report at None
   front-missing l m = none (λ kind body h. omega (arith, field_room report at kind body l h))
 
-  pub front_cut : (n : ℕ) → at ≤ length report → Holds report (at + 1) (two n) → length report < at + 3 + n → FrontAt report at Cut
+  pub front_cut : (n : ℕ) → at ≤ length report → Holds report (at + 1) (two n) → length report < at + 3 + n → FrontAt report at None
   front_cut n l s m = none (λ kind body h. omega (arith, field_room report at kind body l h, number-held report (at + 1) n (length body) s (front-size report at kind body h)))
 
-  pub front-whole : (n : ℕ) → at + 3 + n ≤ length report → Holds report (at + 1) (two n) → FrontAt report at (Field (get_or report at 0) n)
+  pub front-whole : (n : ℕ) → at + 3 + n ≤ length report → Holds report (at + 1) (two n) → FrontAt report at (Some (record { kind = get_or report at 0; size = n }))
   front-whole n l s =
       let p = holds-part report (at + 3) n l in
       let body = take n (drop (at + 3) report) in
       let e : length body ≡ n = p.1 in
-      subst (λ (m : ℕ). FrontAt report at (Field (get_or report at 0) m)) e (whole body (holds-field report at body (omega arith) (rw e s) p.0))
+      subst (λ (m : ℕ). FrontAt report at (Some (record { kind = get_or report at 0; size = m }))) e (whole body (holds-field report at body (omega arith) (rw e s) p.0))

@@ -18,7 +18,7 @@ use Rattle.report.specs.Report.{numbers, field, Reasoned, because, breached, Fil
 use Rattle.report.specs.Broken.{Earliest, Unbroken, PairReason}
 use Rattle.report.specs.Fault.{Stands, stands, FaultAt, behind, astray, spare}
 use Rattle.report_read.specs.Read.{Holds, FrontAt, whole, none}
-use Rattle.report_read.specs.declared.Front.TheVariants.{Field, Cut}
+use Rattle.std.specs.Prelude.{Some, None}
 use Rattle.report.proofs.Bytes.{numbers-one, length-numbers, field-one}
 use Rattle.report.proofs.Fault.{Fielded}
 use Rattle.report.proofs.Broken.{earliest-one, earliest-some}
@@ -99,7 +99,7 @@ totals-right {c = c} {i = i} h k (stands (total {c = c'} {i = i'} h' k') rest) =
 
 module _ (report : List ℕ) (at : ℕ) where
   -- Where the front is cut no field is right; where it is whole, a right field has its kind and length.
-  pub cut-wrong : {P : List ℕ → Type 0} → ((f : List ℕ) → P f → Fielded f) → FrontAt report at Cut → Stands P (drop at report) → ⊥
+  pub cut-wrong : {P : List ℕ → Type 0} → ((f : List ℕ) → P f → Fielded f) → FrontAt report at None → Stands P (drop at report) → ⊥
   cut-wrong {P} fielded (none n) s = go refl s
     where
       go : {bs : List ℕ} → bs ≡ drop at report → Stands P bs → ⊥
@@ -107,13 +107,13 @@ module _ (report : List ℕ) (at : ℕ) where
           let d = fielded f p in
           n d.kind d.body (holds-rest report at (field d.kind d.body) rest (sym e ∙ ap (λ (l : List ℕ). l ++ rest) d.is))
 
-  pub front-one : {k n : ℕ} (kind : ℕ) (body : List ℕ) → FrontAt report at (Field k n) → Begins (drop at report) (field kind body) → (k ≡ kind) × (n ≡ length body)
+  pub front-one : {k n : ℕ} (kind : ℕ) (body : List ℕ) → FrontAt report at (Some (record { kind = k; size = n })) → Begins (drop at report) (field kind body) → (k ≡ kind) × (n ≡ length body)
   front-one kind body (whole {kind = k} mine h) b =
       let r = field-one k kind mine body (drop (at + length (field k mine)) report) b.0 (sym h ∙ b.1) in
       (r.0, ap length r.1)
 
   -- The numbers of a whole field are read off its body.
-  pub listed-field : {kind n : ℕ} (L : List ℕ) → FrontAt report at (Field kind n) → n ≡ 2 * length L → Holds report (at + 3) (numbers L) → Holds report at (field kind (numbers L))
+  pub listed-field : {kind n : ℕ} (L : List ℕ) → FrontAt report at (Some (record { kind = kind; size = n })) → n ≡ 2 * length L → Holds report (at + 3) (numbers L) → Holds report at (field kind (numbers L))
   listed-field L (whole {kind = kind} body h) e k =
       let b : body ≡ numbers L = holds-one report (at + 3) body (numbers L) (e ∙ sym (length-numbers L)) (field-body report at kind body h) k in
       subst (λ (c : List ℕ). Holds report at (field kind c)) b h

@@ -9,17 +9,11 @@ ghost use Rattle.report_read.specs.Read.{Holds, FrontAt};
 use meaning::Tag;
 use report::{APART, LED, TOTALS};
 
-// The front of a field: its kind and the bytes of its body; or no whole field.
-#[derive(Clone, Copy)]
-pub enum Front {
-    Field(u8, usize),
-    Cut,
-}
-
-fn wide(x: u16) -> usize
-    ensures { result ≡ x }
-{
-    x as usize
+// The front of a field: its kind and how many bytes its body has.
+#[derive(Clone, Copy, Debug, PartialEq, Eq)]
+pub struct Front {
+    pub kind: u8,
+    pub size: usize,
 }
 
 // The number at a place.
@@ -27,24 +21,25 @@ pub fn number_in(report: &[u8], at: usize) -> u16
     requires { at + 2 ≤ length report.now }
     ensures { Holds report.now at (two result) }
 {
-    let high = report[at] as u16;
-    let low = report[at + 1] as u16;
-    high * 256 + low
+    u16::from(report[at]) * 256 + u16::from(report[at + 1])
 }
 
-// The field at a place.
-pub fn front_at(report: &[u8], at: usize) -> Front
+// The front of the field at a place, if the whole field is there.
+pub fn front_at(report: &[u8], at: usize) -> Option<Front>
     requires { at ≤ length report.now }
     ensures { FrontAt report.now at result }
 {
     if report.len() - at < 3 {
-        return Front::Cut;
+        return None;
     }
-    let size = wide(number_in(report, at + 1));
+    let size = usize::from(number_in(report, at + 1));
     if report.len() - at - 3 < size {
-        return Front::Cut;
+        return None;
     }
-    Front::Field(report[at], size)
+    Some(Front {
+        kind: report[at],
+        size,
+    })
 }
 
 // Whether a field of two numbers stands at a place.

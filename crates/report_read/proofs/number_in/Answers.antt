@@ -6,4 +6,4 @@ use Rattle.report_read.proofs.Read.{holds-number}
 use Rattle.report_read.proofs.number_in.Goals as goal
 
 pub returns : goal.returns
-returns c = let a = c.args in holds-number a.report.now a.at (omega (arith, c.requires)) (omega (arith, c.type_inv.report (a.at + 1)))
+returns c = let a = c.args in rw (c.from.ensures, c.from-2.ensures) (holds-number a.report.now a.at (omega (arith, c.requires)) (omega (arith, c.type_inv.report (a.at + 1))))
