@@ -22,17 +22,17 @@ use Rattle.profile.specs.Rules.{Rules, Laws}
 use Rattle.answer_sheets.specs.Filing.{Fileable, FiledAt}
 
 -- The room that was counted for the question has room for the sheets behind so many bytes of front and the reason.
-filing-room : (H : Head) (before out n k : ℕ) (room room₁ : List ℕ) → n ≤ min before (2 * (H.size - 1)) → out + (k + 2 * min before (2 * (H.size - 1)) + sheet_room H (after_records before)) ≤ length room → length room₁ ≡ length room
+pub filing-room : (H : Head) (before out n k : ℕ) (room room₁ : List ℕ) → n ≤ min before (2 * (H.size - 1)) → out + (k + 2 * min before (2 * (H.size - 1)) + sheet_room H (after_records before)) ≤ length room → length room₁ ≡ length room
     → H.sheeted ≡ true → out + k + 2 * n + 3 + 2 * n ≤ length room₁
 filing-room H before out n k room room₁ few fits e t =
     let fits' : out + (k + 2 * min before (2 * (H.size - 1)) + (3 + 2 * min before (2 * (H.size - 1)))) ≤ length room = rw t at fits in
     omega arith
 
 -- The two fields are laid as one.
-behind-laid : (out n : ℕ) (f g room room₁ : List ℕ) {room₂ : List ℕ} → out + length f ≤ length room → n ≡ out + length f → room₁ ≡ laid out f room → room₂ ≡ laid n g room₁ → room₂ ≡ laid out (f ++ g) room
+pub behind-laid : (out n : ℕ) (f g room room₁ : List ℕ) {room₂ : List ℕ} → out + length f ≤ length room → n ≡ out + length f → room₁ ≡ laid out f room → room₂ ≡ laid n g room₁ → room₂ ≡ laid out (f ++ g) room
 behind-laid out n f g room room₁ fits e h k = k ∙ laid_then out n f g room room₁ fits e h
 
-behind-reached : (out n : ℕ) (f g : List ℕ) {end : ℕ} → n ≡ out + length f → end ≡ n + length g → end ≡ out + length (f ++ g)
+pub behind-reached : (out n : ℕ) (f g : List ℕ) {end : ℕ} → n ≡ out + length f → end ≡ n + length g → end ≡ out + length (f ++ g)
 behind-reached out n f g e h = omega (arith, length-append f g)
 
 -- In edition 1 nothing is laid, and in edition 2 the field of the sheets.

@@ -7,7 +7,7 @@ ghost use Rattle.script_terms.specs.Flat.{noted, differing, checking};
 ghost use Rattle.script_meaning.specs.Reading.{with_record, with_differ, with_check};
 ghost use Rattle.script_fields.specs.Fields.{Begun, Notes, fitting};
 
-use script_shelf::{Counts, Field, note, store};
+use script_shelf::{Counts, Field, note_field, store};
 
 // Nothing is read yet.
 pub fn begin(work: &mut [u16]) -> Counts
@@ -33,7 +33,7 @@ pub fn note_equal(work: &mut [u16], counts: Counts, a: u16, b: u16) -> Counts
     requires { (32768 ≤ length work.old) × (counts.fields ≤ 5500) × (counts.records ≤ 5500) }
     ensures { Notes work.old work.new counts result (noted (eq a b)) with_record }
 {
-    note(work, counts.fields, Field::Equal(a, b));
+    note_field(work, counts.fields, Field::Equal(a, b));
     Counts {
         records: counts.records + 1,
         fields: counts.fields + 1,
@@ -46,7 +46,7 @@ pub fn note_differ(work: &mut [u16], counts: Counts, a: u16, b: u16) -> Counts
     requires { (32768 ≤ length work.old) × (counts.fields ≤ 5500) × (counts.differs ≤ 5500) }
     ensures { Notes work.old work.new counts result (differing a b) with_differ }
 {
-    note(work, counts.fields, Field::Differing(a, b));
+    note_field(work, counts.fields, Field::Differing(a, b));
     Counts {
         differs: counts.differs + 1,
         fields: counts.fields + 1,
@@ -59,7 +59,7 @@ pub fn note_check(work: &mut [u16], counts: Counts) -> Counts
     requires { (32768 ≤ length work.old) × (counts.fields ≤ 5500) × (counts.checks ≤ 5500) }
     ensures { Notes work.old work.new counts result checking with_check }
 {
-    note(work, counts.fields, Field::Check);
+    note_field(work, counts.fields, Field::Check);
     Counts {
         checks: counts.checks + 1,
         fields: counts.fields + 1,

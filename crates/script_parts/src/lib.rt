@@ -5,7 +5,7 @@ ghost use Rattle.std.specs.Prelude.{◌≡◌, ℕ, ◌+◌, ◌≤◌, ◌<◌,
 ghost use Rattle.script_parts.specs.Pairs.{key_of, fitting, pair_in, Shelved, Ready, Put};
 ghost use Rattle.script_parts.specs.Meet.{Meets};
 
-use script_shelf::{Counts, Field, cell, file, note, seek};
+use script_shelf::{Counts, Field, cell, file, note_field, seek};
 
 // A part's number, and the counts with it.
 #[derive(Clone, Copy, Debug, PartialEq, Eq)]
@@ -45,7 +45,7 @@ fn put(work: &mut [u16], counts: Counts, a: u16, b: u16, key: usize, head: u16) 
     ensures { Put work.old work.new counts result a b key head }
 {
     file(work, counts.parts, a, b, key, head);
-    note(
+    note_field(
         work,
         counts.fields,
         Field::Applied(a, b, 1001 + counts.parts),

@@ -76,23 +76,30 @@ pub fn store(work: &mut [u16], column: usize, i: usize, v: u16)
     work[column + i] = v;
 }
 
-// One more field.
+// One more field, by its kind and its three numbers.
 #[tactic(auto, unfolding(crate::specs::Columns::note_in))]
-pub fn note(work: &mut [u16], n: u16, field: Field)
+pub fn note(work: &mut [u16], n: u16, kind: u16, first: u16, second: u16, third: u16)
     requires { (32768 ≤ length work.old) × (n ≤ 5500) }
-    ensures { work.new ≡ note_in work.old n (kind_of (item_of field)) (first_of (item_of field)) (second_of (item_of field)) (third_of (item_of field)) }
+    ensures { work.new ≡ note_in work.old n kind first second third }
 {
     let i = usize::from(n);
-    let (kind, first, second, third) = match field {
-        Field::Equal(a, b) => (1, a, b, 0),
-        Field::Applied(a, b, c) => (2, a, b, c),
-        Field::Differing(a, b) => (5, a, b, 0),
-        Field::Check => (6, 0, 0, 0),
-    };
     store(work, KIND, i, kind);
     store(work, FIRST, i, first);
     store(work, SECOND, i, second);
     store(work, THIRD, i, third);
+}
+
+// One more field.
+pub fn note_field(work: &mut [u16], n: u16, field: Field)
+    requires { (32768 ≤ length work.old) × (n ≤ 5500) }
+    ensures { work.new ≡ note_in work.old n (kind_of (item_of field)) (first_of (item_of field)) (second_of (item_of field)) (third_of (item_of field)) }
+{
+    match field {
+        Field::Equal(a, b) => note(work, n, 1, a, b, 0),
+        Field::Applied(a, b, c) => note(work, n, 2, a, b, c),
+        Field::Differing(a, b) => note(work, n, 5, a, b, 0),
+        Field::Check => note(work, n, 6, 0, 0, 0),
+    }
 }
 
 // One more part, with its key; `head` is the part before it with the same key.

@@ -108,6 +108,12 @@ chain-low v l = rw (le-leb v column_size l)
 pub chain-high : (v : ℕ) → WAITS ≤ v → chain_in v ≡ 0
 chain-high v l = rw (lt-leb v column_size l)
 
+pub waits-is : (v : ℕ) → 0 < v → leb WAITS v ≡ eqb (chain_in v) 0
+waits-is v l = elim (dec_lt v WAITS) [
+  | yes k ↦ lt-leb WAITS v k ∙ sym (ne_eqb (chain_in v) 0 (λ e. let z = chain-low v (omega arith) in omega arith))
+  | no k ↦ le-leb WAITS v (omega arith) ∙ sym (eq-eqb (chain_in v) 0 (chain-high v (omega arith)))
+]
+
 -- Gathered lists.
 module _ {A : Type 0} where
   pub length-gather : (f : ℕ → A) (n : ℕ) → length (gather f n) ≡ n
