@@ -42,10 +42,8 @@ fn say_room(rt: &HostRuntime, room: &[u8], n: usize) -> bool {
 
 // Whether the first 32,768 numbers are zero and those behind are still dirty.
 fn swept(table: &[u16]) -> bool {
-    table
-        .iter()
-        .enumerate()
-        .all(|(i, n)| *n == if i < 32768 { 0 } else { 48879 })
+    let (named, behind) = table.split_at(table.len().min(32768));
+    named.iter().all(|n| *n == 0) && behind.iter().all(|n| *n == 48879)
 }
 
 fn front_room(s: &mut [u8], n: usize) -> &mut [u8] {

@@ -2,16 +2,65 @@
 use Prim.Native.Nat.{ℕ, suc, ◌+◌, ◌<◌, ◌≤◌}
 use native.Mathlib.Omega.{arith}
 use mathlib.Core.Path.{◌≡◌, refl, sym, ◌∙◌, ap}
-use mathlib.Core.Bool.{true, false}
+use mathlib.Core.Bool.{Bool, true, false, cond, not, ◌&&◌}
 use mathlib.Core.List.{List, ◌∷◌}
 use mathlib.Core.Logic.{◌≢◌}
-use lib.Dec.{eqb}
+use lib.Dec.{T, eqb, ltb, leb, ltb→lt}
 use lib.ListN.{length, get_or, drop, drop_of_length-le}
 use native.Mathlib.Numerals.{add-one}
 use lib.Seq.{drop-cons}
-use Rattle.script_terms.proofs.Tests.{eqb_yes, eqb_no}
-use Rattle.script_meaning.specs.Tokens.{is_symbolic, skip, run, Token, token_of, lex}
-use Rattle.script_tokens.specs.Lexing.{Onward, Skipped, Ran, Kinded, at-end, at-opening, at-closing, at_other, at-word, Lexed}
+use Rattle.script_terms.proofs.Tests.{both, alike, alike-one, eqb_yes, eqb_no, ltb_yes, ltb_no}
+use Rattle.script_meaning.specs.Tokens.{is_blank, is_break, is_symbolic, is_digit_byte, skip, run, Token, token_of, lex}
+use Rattle.script_tokens.specs.Lexing.{Classed, Onward, Skipped, Ran, Kinded, at-end, at-opening, at-closing, at_other, at-word, Lexed}
+
+-- The whole rule as one test.
+abbrev pub right : ℕ → ℕ → Bool
+right b c =
+    ltb c 8 && (alike (eqb c 1) (is_break b) && (alike (ltb c 2) (is_blank b) && (alike (eqb c 2) (eqb b 59)
+    && (alike (eqb c 3) (eqb b 40) && (alike (eqb c 4) (eqb b 41) && (alike (leb 6 c) (is_symbolic b) && alike (eqb c 7) (is_digit_byte b)))))))
+
+pub right-classed : (b c : ℕ) → T (right b c) → Classed b c
+right-classed b c t =
+    let t0 = both (ltb c 8) _ t in
+    let t1 = both (alike (eqb c 1) (is_break b)) _ t0.1 in
+    let t2 = both (alike (ltb c 2) (is_blank b)) _ t1.1 in
+    let t3 = both (alike (eqb c 2) (eqb b 59)) _ t2.1 in
+    let t4 = both (alike (eqb c 3) (eqb b 40)) _ t3.1 in
+    let t5 = both (alike (eqb c 4) (eqb b 41)) _ t4.1 in
+    let t6 = both (alike (leb 6 c) (is_symbolic b)) _ t5.1 in
+    record {
+      small = ltb→lt c 8 t0.0;
+      break = alike-one _ _ t1.0;
+      blank = alike-one _ _ t2.0;
+      comment = alike-one _ _ t3.0;
+      opens = alike-one _ _ t4.0;
+      closes = alike-one _ _ t5.0;
+      symbolic = alike-one _ _ t6.0;
+      digit = alike-one _ _ t6.1;
+    }
+
+-- One byte on.
+inside : (b i : ℕ) (l : List ℕ) {x : Bool} → is_break b ≡ x → skip true i (b ∷ l) ≡ skip (not x) (suc i) l
+inside b i l e = rw e refl
+
+outside : (b i : ℕ) (l : List ℕ) {x y : Bool} → is_blank b ≡ x → eqb b 59 ≡ y → skip false i (b ∷ l) ≡ cond x (skip false (suc i) l) (cond y (skip true (suc i) l) i)
+outside b i l e f = rw (e, f) refl
+
+module _ {state b c : ℕ} (C : Classed b c) where
+  pub on-break : state ≡ 1 → c ≡ 1 → Onward state b 0
+  on-break e f = record { is = λ i l. rw (eqb_yes e) (inside b i l (sym C.break ∙ eqb_yes f)); stop = λ z. absurd (omega arith) }
+
+  pub on-comment : state ≡ 1 → c ≢ 1 → Onward state b 1
+  on-comment e f = record { is = λ i l. rw (eqb_yes e) (inside b i l (sym C.break ∙ eqb_no f)); stop = λ z. absurd (omega arith) }
+
+  pub on-blank : state ≢ 1 → c < 2 → Onward state b 0
+  on-blank e f = record { is = λ i l. rw (eqb_no e) (outside b i l (sym C.blank ∙ ltb_yes f) refl); stop = λ z. absurd (omega arith) }
+
+  pub on-semicolon : state ≢ 1 → c ≡ 2 → Onward state b 1
+  on-semicolon e f = record { is = λ i l. rw (eqb_no e) (outside b i l (sym C.blank ∙ ltb_no {m = c} {n = 2} (omega arith)) (sym C.comment ∙ eqb_yes f)); stop = λ z. absurd (omega arith) }
+
+  pub on-token : state ≢ 1 → 2 ≤ c → c ≢ 2 → Onward state b 2
+  on-token e g f = record { is = λ i l. rw (eqb_no e) (outside b i l (sym C.blank ∙ ltb_no g) (sym C.comment ∙ eqb_no f)); stop = λ z. (sym C.blank ∙ ltb_no g, sym C.comment ∙ eqb_no f) }
 
 -- A place on.
 module _ (s : List ℕ) (i : ℕ) (h : i < length s) where

@@ -1,6 +1,17 @@
 -- What the lexer's functions answer, by the definitions of Tokens. Assumes nothing.
-use Rattle.std.specs.Prelude.{ℕ, suc, ◌+◌, ◌≤◌, ◌<◌, ◌≡◌, false, cond, List, ◌∷◌, eqb, length, get_or, drop}
-use Rattle.script_meaning.specs.Tokens.{is_blank, skip, run, Token, opening, closing, word, other, ended, lex}
+use Rattle.std.specs.Prelude.{ℕ, suc, ◌+◌, ◌≤◌, ◌<◌, ◌≡◌, false, cond, List, ◌∷◌, eqb, ltb, leb, length, get_or, drop}
+use Rattle.script_meaning.specs.Tokens.{is_blank, is_break, is_symbolic, is_digit_byte, skip, run, Token, opening, closing, word, other, ended, lex}
+
+-- The class of a byte.
+pub record Classed (b c : ℕ) : Type 0 where
+  pub small : c < 8
+  pub break : eqb c 1 ≡ is_break b
+  pub blank : ltb c 2 ≡ is_blank b
+  pub comment : eqb c 2 ≡ eqb b 59
+  pub opens : eqb c 3 ≡ eqb b 40
+  pub closes : eqb c 4 ≡ eqb b 41
+  pub symbolic : leb 6 c ≡ is_symbolic b
+  pub digit : eqb c 7 ≡ is_digit_byte b
 
 -- One byte on, in a comment (1) or not: a token begins there (2), or what is next.
 pub record Onward (state b next : ℕ) : Type 0 where
