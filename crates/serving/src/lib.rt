@@ -42,7 +42,8 @@ impl From<Refusal> for Refused {
     }
 }
 
-// A program: what it runs on, and its name, with which each of its complaints begins.
+// A program: what it runs on, and its name, with which each of its complaints begins. What lends large rooms stands in a frame of its own, so that no way
+// through a program needs the stack of another.
 #[derive(Clone, Copy)]
 pub struct Program<'a> {
     pub runtime: &'a HostRuntime,
@@ -122,6 +123,7 @@ impl Program<'_> {
     }
 
     // Answers a job in lines. The call gets the job, the room of its report, the work table and the room of its text, and gives the text's length.
+    #[inline(never)]
     pub fn write_lines<F: FnOnce(&[u8], &mut [u8], &mut [u16], &mut [u8]) -> Option<usize>>(
         &self,
         tell: F,
@@ -129,9 +131,19 @@ impl Program<'_> {
         requires { F.IsAlwaysCallable tell }
     {
         let mut kept = [0u8; JOB];
-        let Some(job) = self.input(&mut kept) else {
-            return;
-        };
+        if let Some(job) = self.input(&mut kept) {
+            self.write_answers(job, tell);
+        }
+    }
+
+    // Apart, so that what is lent is cleared once: what a function that may end before clears, it clears on entry too.
+    fn write_answers<F: FnOnce(&[u8], &mut [u8], &mut [u16], &mut [u8]) -> Option<usize>>(
+        &self,
+        job: &[u8],
+        tell: F,
+    )
+        requires { F.IsAlwaysCallable tell }
+    {
         let mut room = [0u8; REPORT];
         let mut work = [0u16; WORK];
         let mut text = [0u8; TEXT];
@@ -165,6 +177,7 @@ impl Program<'_> {
 
     // Rechecks a report against its job, the files that two arguments name, and writes the line `number place`: what stands behind the letter and the space of the
     // line of a refusal. So many bytes of the report are read.
+    #[inline(never)]
     pub fn write_verdict<
         const KEPT: usize,
         F: FnOnce(&[u8], &[u8], &mut [u16]) -> Result<(), Refused>,
@@ -173,13 +186,34 @@ impl Program<'_> {
         requires call { F.IsAlwaysCallable recheck }
     {
         let mut job_room = [0u8; JOB];
-        let Some(job) = self.file(arguments.0, "the job", &mut job_room) else {
-            return;
-        };
+        if let Some(job) = self.file(arguments.0, "the job", &mut job_room) {
+            self.weigh::<KEPT, F>(job, arguments.1, recheck);
+        }
+    }
+
+    fn weigh<const KEPT: usize, F: FnOnce(&[u8], &[u8], &mut [u16]) -> Result<(), Refused>>(
+        &self,
+        job: &[u8],
+        argument: usize,
+        recheck: F,
+    )
+        requires size { KEPT < 16777216 }
+        requires call { F.IsAlwaysCallable recheck }
+    {
         let mut report_room = [0u8; KEPT];
-        let Some(report) = self.file(arguments.1, "the report", &mut report_room) else {
-            return;
-        };
+        if let Some(report) = self.file(argument, "the report", &mut report_room) {
+            self.write_finding(job, report, recheck);
+        }
+    }
+
+    fn write_finding<F: FnOnce(&[u8], &[u8], &mut [u16]) -> Result<(), Refused>>(
+        &self,
+        job: &[u8],
+        report: &[u8],
+        recheck: F,
+    )
+        requires { F.IsAlwaysCallable recheck }
+    {
         let mut work = [0u16; WORK];
         let found = recheck(job, report, &mut work);
         let verdict = found.err().unwrap_or(Refused {

@@ -35,6 +35,8 @@ fn asked(rt: &HostRuntime) -> Option<Ask> {
     }
 }
 
+// In a frame of its own, whose rooms a recheck does not need.
+#[inline(never)]
 fn report(program: Program<'_>) {
     let mut kept = [0u8; JOB];
     let Some(job) = program.input(&mut kept) else {

@@ -183,6 +183,8 @@ fn limit_of(word: &[u8]) -> Result<usize, Unasked> {
     }
 }
 
+// In a frame of its own, whose rooms a complaint does not need.
+#[inline(never)]
 fn serve(program: Program<'_>, ask: Ask) {
     let mut kept = [0u8; JOB];
     let Some(job) = program.input(&mut kept) else {
