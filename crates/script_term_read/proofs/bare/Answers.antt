@@ -18,7 +18,7 @@ pub returns-then-symbol-ne0 : goal.returns-then-symbol-ne0
 returns-then-symbol-ne0 c = record { told = λ c' x y z. bare-some c.requires.0 c.requires.1 _ (ap number c.in-Name.is) c.in-Some.ensures refl c.if-symbol-ne0.true }
 
 pub returns-then-depth-gt-DEEPEST : goal.returns-then-depth-gt-DEEPEST
-returns-then-depth-gt-DEEPEST c = record { told = λ c' x y z. bare-16 c.requires.0 c.requires.1 _ (ap number c.in-Name.is) c.in-Some.ensures refl c.if-symbol-ne0.false c.if-depth-gt-DEEPEST.true }
+returns-then-depth-gt-DEEPEST c = record { told = λ c' x y z. bare-16 c.requires.0 c.requires.1 _ (ap number c.in-Name.is) c.in-Some.ensures refl c.if-symbol-ne0.false (omega arith) }
 
 pub returns : goal.returns
 returns c = record { told = bare-good c.requires.0 c.requires.1 _ (ap number c.in-Name.is) c.in-Some.ensures refl c.if-symbol-ne0.false (omega arith) }
